@@ -1,0 +1,7 @@
+pub mod Checks
+pub mod Walks
+pub mod Ending
+pub mod Reading
+pub mod Texts
+pub mod Idents
+pub mod Holes

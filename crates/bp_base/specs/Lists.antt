@@ -1,0 +1,23 @@
+-- Items of lists, and the only thing that a fact holds of.
+use Rattle.std.specs.Prelude.{◌≡◌, ◌⊎◌, List, [], ◌∷◌, ◌++◌}
+
+-- the item stands in the list
+abbrev pub Among : {A : Type 0} → A → List A → Type 0
+Among a [] = ⊥
+Among a (x ∷ xs) = (x ≡ a) ⊎ Among a xs
+
+-- no item stands twice
+abbrev pub AreDistinct : {A : Type 0} → List A → Type 0
+AreDistinct [] = Unit {0}
+AreDistinct (x ∷ xs) = (Among x xs → ⊥) × AreDistinct xs
+
+-- the fact holds of it, and of nothing else
+pub record IsOnly {X : Type 0} (P : X → Type 0) (it : X) : Type 0 where
+  pub holds : P it
+  pub only : (other : X) → P other → other ≡ it
+
+-- A loop that reads a list, item by item: what was read before the rest, with what is read from the rest, is what is read from
+-- the start.
+pub record SoFar {X S : Type 0} (Reads : S → List X → Type 0) (start rest : S) (done : List X) : Type 0 where
+  pub sound : (more : List X) → Reads rest more → Reads start (done ++ more)
+  pub complete : (all : List X) → Reads start all → (more : List X) × (all ≡ done ++ more) × Reads rest more

@@ -1,0 +1,34 @@
+//! What every crate of the product speaks of: texts, identities, types, interfaces, defects, limits and steps; and, for
+//! contracts, checks and walks.
+#![tactic(auto)]
+
+mod code;
+mod defect;
+mod entity;
+mod hole;
+mod ident;
+mod linking;
+mod steps;
+mod text;
+mod ty;
+
+pub use code::{Code, Which, defect_code};
+pub use defect::{Defect, Item, LimitHit, Place, Refusal};
+pub use entity::{
+    Assoc, Con, Cons, Entities, Entity, Export, Exports, Field, Fields, Fixity, Interface,
+    Interfaces, Signature, Signatures, copied_cons, copied_entities, copied_exports, copied_fields,
+    copied_names, fixity_of_default, same_con, same_cons, same_entity, same_export, same_field,
+    same_fields, same_names,
+};
+pub use hole::{is_closed, is_closed_unit, occurs};
+pub use ident::{Fill, Fills, Ident, Unit, copied_fills, same_fills, same_ident, same_unit};
+pub use linking::{
+    Include, Includes, Linking, Provision, Provisions, Rename, Renames, Renaming, Shown, Showns,
+    copied_provisions, copied_renames,
+};
+pub use steps::Steps;
+pub use text::{Bytes, Name, Names, Path, compare};
+pub use ty::{
+    Kind, OrigName, OrigNames, Scheme, Space, Ty, Tys, kind_eq, same_orig_name, same_scheme,
+    same_ty,
+};
