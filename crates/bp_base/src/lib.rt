@@ -32,3 +32,6 @@ pub use ty::{
     Kind, OrigName, OrigNames, Scheme, Space, Ty, Tys, kind_eq, same_orig_name, same_scheme,
     same_ty,
 };
+
+#[cfg(test)]
+mod tests;
