@@ -152,3 +152,33 @@ fn copies_are_equal_and_others_are_not(rt: HostRuntime) -> Result<(), Fail> {
     assert_eq!(rt; copy.entries.len(), 1);
     Ok(())
 }
+
+#[test]
+fn names_have_their_forms(rt: HostRuntime) {
+    for (text, package, component, module) in [
+        (b"one".as_slice(), true, true, false),
+        (b"a-1-2b", true, true, false),
+        (b"9", true, true, false),
+        (b"a--b", false, false, false),
+        (b"-a", false, false, false),
+        (b"a-", false, false, false),
+        (b"", false, false, false),
+        (b"p:s", false, true, false),
+        (b"p:exe", false, true, false),
+        (b"p:exe:e-1", false, true, false),
+        (b"p:lib:e", false, false, false),
+        (b"p:", false, false, false),
+        (b":s", false, false, false),
+        (b"p:exe:", false, false, false),
+        (b"Str.Chars", false, false, true),
+        (b"M1'_", false, false, true),
+        (b"M", true, true, true),
+        (b"M.", false, false, false),
+        (b"M.a", false, false, false),
+        (b".M", false, false, false),
+    ] {
+        assert!(rt; is_package_name(text) == package);
+        assert!(rt; is_component_name(text) == component);
+        assert!(rt; is_module_name(text) == module);
+    }
+}
