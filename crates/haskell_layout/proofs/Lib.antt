@@ -1,0 +1,6 @@
+mod Entries
+mod Advancing
+mod Steps
+mod Standing
+mod Staying
+mod Matching

@@ -1,0 +1,5 @@
+use Rattle.haskell_layout.proofs.Staying as staying
+use Rattle.haskell_layout.proofs.laws.braces_stay.Goals as goal
+
+pub returns : goal.returns
+returns c = staying.braces_stay

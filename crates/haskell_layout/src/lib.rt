@@ -1,0 +1,16 @@
+//! Layout of Haskell sources (Haskell 2010 Report, section 10.3): the braces and semicolons that indentation stands for.
+#![tactic(auto)]
+
+mod error;
+mod laws;
+mod pass;
+mod progress;
+mod role;
+mod stack;
+
+pub use error::LayoutError;
+pub use laws::{braces_match, braces_stay, given_tokens_stand};
+pub use pass::layout;
+
+#[cfg(test)]
+mod tests;
