@@ -1,0 +1,9 @@
+pub mod Forms
+pub mod Either
+pub mod Narrow
+pub mod Limits
+pub mod Chains
+pub mod Whole
+pub mod Commas
+pub mod TypeLayers
+pub mod TypeCases

@@ -1,0 +1,5 @@
+pub mod Reading
+pub mod Answers
+pub mod Whole
+pub mod Terminals
+pub mod Types
