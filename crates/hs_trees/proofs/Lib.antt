@@ -7,3 +7,6 @@ pub mod Whole
 pub mod Commas
 pub mod TypeLayers
 pub mod TypeCases
+pub mod TypeChains
+pub mod TypeBrackets
+pub mod TypeReturns

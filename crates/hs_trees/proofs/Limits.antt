@@ -1,6 +1,6 @@
 -- Limits, and lists of depths and tests.
 use Rattle.std.proofs.Common.{◌≡◌, ℕ, zero, suc, ◌+◌, ◌-◌, ◌<◌, ◌≤◌, ◌↔◌, Bool, true, false, List, [], ◌∷◌, ◌++◌, length, refl, sym, ap, ◌∙◌, subst, true≢false, arith}
-use Rattle.std.specs.Prelude.{map, max, ◌&&◌, Option, Some, None}
+use Rattle.std.specs.Prelude.{map, max, ◌&&◌, ◌||◌, Option, Some, None}
 use Rattle.hs_trees.specs.Answers.{Within, lowered, deepest, all_of}
 
 pub within_less : (limit : Option ℕ) (a b : ℕ) → a ≤ b → Within limit b → Within limit a
@@ -55,3 +55,11 @@ deep_front f (y ∷ xs) ys = let h = deep_front f xs ys in omega arith
 pub deep_more : {X : Type 0} (f : X → ℕ) (xs : List X) (x : X) → deepest (map f (xs ++ x ∷ [])) ≡ max (deepest (map f xs)) (f x)
 deep_more f [] x = omega arith
 deep_more f (y ∷ xs) x = let h = deep_more f xs x in omega arith
+
+pub or_left : (a b : Bool) → a || b ≡ false → a ≡ false
+or_left true b e = e
+or_left false b e = refl
+
+pub or_right : (a b : Bool) → a || b ≡ false → b ≡ false
+or_right true b e = absurd (true≢false e)
+or_right false b e = e
