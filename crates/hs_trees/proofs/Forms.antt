@@ -84,14 +84,14 @@ regroup_more items front xs x s =
 module _ {K T H X : Type 0} (form : Form K T) (head : Form K H) (items : X → List K) (item : ℕ → X → Type 0)
     (inner : X → K → Bool) (starter : K → Bool) (make : H → List X → T) (c : IsChain form head items item inner starter make) where
 
-  quiet_inner : (h : H) (xs : List X) (x : X) (more : List X) (after : List K) → form.Good (make h (xs ++ x ∷ more)) →
+  pub quiet_inner : (h : H) (xs : List X) (x : X) (more : List X) (after : List K) → form.Good (make h (xs ++ x ∷ more)) →
       begins (form.extends (make h (xs ++ x ∷ more))) after ≡ false → begins (inner x) (flat_map items more ++ after) ≡ false
   quiet_inner h xs x [] after g q = begins_within (form.extends (make h (xs ++ x ∷ []))) (inner x) after (c.ends_item h xs x) q
   quiet_inner h xs x (y ∷ more) after g q =
       rw (append_assoc (items y) (flat_map items more) after)
       (begins_apart starter (inner x) (items y) _ (λ t e. c.apart_item h xs x y more t g e) (c.starts y))
 
-  quiet_head : (h : H) (xs : List X) (after : List K) → form.Good (make h xs) → begins (form.extends (make h xs)) after ≡ false →
+  pub quiet_head : (h : H) (xs : List X) (after : List K) → form.Good (make h xs) → begins (form.extends (make h xs)) after ≡ false →
       begins (head.extends h) (flat_map items xs ++ after) ≡ false
   quiet_head h [] after g q = begins_within (form.extends (make h [])) (head.extends h) after (c.ends_head h) q
   quiet_head h (x ∷ xs) after g q =

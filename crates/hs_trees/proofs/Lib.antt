@@ -3,6 +3,7 @@ pub mod Either
 pub mod Narrow
 pub mod Limits
 pub mod Chains
+pub mod Readable
 pub mod Whole
 pub mod Commas
 pub mod TypeLayers
@@ -10,3 +11,4 @@ pub mod TypeCases
 pub mod TypeChains
 pub mod TypeBrackets
 pub mod TypeReturns
+pub mod TypeUnique

@@ -3,3 +3,4 @@ pub mod Answers
 pub mod Whole
 pub mod Terminals
 pub mod Types
+pub mod Patterns

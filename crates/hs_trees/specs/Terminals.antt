@@ -74,3 +74,44 @@ abbrev pub is_right_bracket : Terminal → Bool
 is_right_bracket t.RightBracket = true
 is_right_bracket _ = false
 
+abbrev pub is_at : Terminal → Bool
+is_at t.At = true
+is_at _ = false
+
+abbrev pub is_integer : Terminal → Bool
+is_integer (t.Integer text) = true
+is_integer _ = false
+
+abbrev pub is_backquote : Terminal → Bool
+is_backquote t.Backquote = true
+is_backquote _ = false
+
+abbrev pub is_con : Terminal → Bool
+is_con (t.Con name) = true
+is_con _ = false
+
+abbrev pub is_var_sym : Terminal → Bool
+is_var_sym (t.VarSym name) = true
+is_var_sym _ = false
+
+abbrev pub starts_qconop : Terminal → Bool
+starts_qconop (t.ConSym name) = true
+starts_qconop t.Colon = true
+starts_qconop t.Backquote = true
+starts_qconop _ = false
+
+abbrev pub minus : List ℕ
+minus = codes "-"
+
+abbrev pub star : List ℕ
+star = codes "*"
+
+-- the symbol `-`
+abbrev pub is_minus : Terminal → Bool
+is_minus (t.VarSym name) = bytes_eq name minus
+is_minus _ = false
+
+-- the symbol `*`
+abbrev pub is_star : Terminal → Bool
+is_star (t.VarSym name) = bytes_eq name star
+is_star _ = false

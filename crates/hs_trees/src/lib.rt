@@ -3,10 +3,12 @@
 
 mod error;
 mod fault;
+mod patterns;
 mod terminal;
 mod types;
 
 pub use error::ParseError;
 pub use fault::Fault;
 pub use types::{AKindTree, ATypeTree, BTypeTree, KindTree, TypeTree};
+pub use patterns::{APatTree, GConTree, LPatTree, LiteralTree, OpLPat, PatTree, QConOpTree, VarTree};
 pub use terminal::{Terminal, Terminals, terminal_of, terminals_of};
