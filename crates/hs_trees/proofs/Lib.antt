@@ -12,3 +12,4 @@ pub mod TypeChains
 pub mod TypeBrackets
 pub mod TypeReturns
 pub mod TypeUnique
+pub mod PatternLayers

@@ -143,7 +143,7 @@ starts_pat_append (k ∷ xs) ys h = h
 
 pub lpat_starts_layer : (x : LLayer) → starts_pat (lpat_layer_tokens x) ≡ true
 lpat_starts_layer (LPatTree-F.Negative text) = refl
-lpat_starts_layer (LPatTree-F.Con con first rest) = apat_pat _ (begins_append starts_apat (gcon_tokens con) _ (gcon_starts con))
+lpat_starts_layer (LPatTree-F.Apply con first rest) = apat_pat _ (begins_append starts_apat (gcon_tokens con) _ (gcon_starts con))
 lpat_starts_layer (LPatTree-F.APat part) = apat_pat _ (apat_starts part)
 
 pub lpat_starts : (x : LPatTree) → starts_pat (spelling_lpat x) ≡ true

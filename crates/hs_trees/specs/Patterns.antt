@@ -60,7 +60,7 @@ apat_tokens (APatTree-F.Lazy part) = t.Tilde ∷ part
 
 abbrev pub lpat_tokens : LPatTree-F Ts Ts Ts Ts → Ts
 lpat_tokens (LPatTree-F.Negative text) = t.VarSym minus ∷ t.Integer text ∷ []
-lpat_tokens (LPatTree-F.Con con first rest) = gcon_tokens con ++ (first ++ flat_map (λ part. part) rest)
+lpat_tokens (LPatTree-F.Apply con first rest) = gcon_tokens con ++ (first ++ flat_map (λ part. part) rest)
 lpat_tokens (LPatTree-F.APat part) = part
 
 abbrev pub op_tokens : OpLPat-F Ts Ts Ts Ts → Ts
@@ -99,7 +99,7 @@ apat_formed (APatTree-F.Lazy part) = part
 
 abbrev pub lpat_formed : LPatTree-F Bool Bool Bool Bool → Bool
 lpat_formed (LPatTree-F.Negative text) = true
-lpat_formed (LPatTree-F.Con con first rest) = is_gcon con && (first && all_of rest)
+lpat_formed (LPatTree-F.Apply con first rest) = is_gcon con && (first && all_of rest)
 lpat_formed (LPatTree-F.APat part) = part
 
 abbrev pub op_formed : OpLPat-F Bool Bool Bool Bool → Bool
@@ -133,7 +133,7 @@ apat_depth (APatTree-F.Lazy part) = part + 1
 
 abbrev pub lpat_depth : LPatTree-F ℕ ℕ ℕ ℕ → ℕ
 lpat_depth (LPatTree-F.Negative text) = 0
-lpat_depth (LPatTree-F.Con con first rest) = max first (deepest rest)
+lpat_depth (LPatTree-F.Apply con first rest) = max first (deepest rest)
 lpat_depth (LPatTree-F.APat part) = part
 
 abbrev pub op_depth : OpLPat-F ℕ ℕ ℕ ℕ → ℕ

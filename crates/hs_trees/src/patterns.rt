@@ -65,7 +65,7 @@ pub struct OpLPat {
 #[derive(Debug, Drop)]
 pub enum LPatTree {
     Negative(Bytes),
-    Con(GConTree, APatTree, Items<APatTree>),
+    Apply(GConTree, APatTree, Items<APatTree>),
     APat(APatTree),
 }
 
