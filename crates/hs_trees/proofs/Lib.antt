@@ -13,3 +13,9 @@ pub mod TypeBrackets
 pub mod TypeReturns
 pub mod TypeUnique
 pub mod PatternLayers
+pub mod PatternCases
+pub mod PatternChains
+pub mod PatternAtoms
+pub mod PatternBrackets
+pub mod PatternLPats
+pub mod PatternReturns

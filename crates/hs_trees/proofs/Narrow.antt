@@ -1,11 +1,11 @@
 -- A form before certain tokens, one form as another, a production with a leading token, and a choice between two forms.
 use Rattle.std.proofs.Common.{◌≡◌, ℕ, zero, suc, ◌+◌, ◌≤◌, ◌<◌, Bool, true, false, List, [], ◌∷◌, ◌++◌, length, refl, sym, ap, ◌∙◌, subst, append_assoc, true≢false, arith, inl, inr, ◌⊎◌, length-append}
 use Rattle.std.specs.Prelude.{not, min}
-use Rattle.std.proofs.lemmas.List.{append-nil}
+use Rattle.std.proofs.lemmas.List.{append-nil, append_cancel_left}
 use Rattle.hs_trees.specs.Reading.{Form, SameStart, begins, Reads, Refuses}
 use Rattle.hs_trees.specs.Answers.{Rejects}
 use Rattle.hs_trees.proofs.Forms.{same_start_append, begins_within, begins_same, begins_append, closed}
-use Rattle.hs_trees.proofs.Either.{either, side, side_type, refuses_first}
+use Rattle.hs_trees.proofs.Either.{either, side, side_type, refuses_first, splits}
 
 -- Trees that are followed by such a token, or by none.
 abbrev pub narrow : {K T : Type 0} → Form K T → (K → Bool) → Form K T
@@ -73,21 +73,20 @@ module _ {K A B : Type 0} (a : Form K A) (b : Form K B) (f : A → B) (o : Onto 
       (e ∙ ap (λ z. b.tokens z ++ after) y.1 ∙ ap (λ l. l ++ after) (o.tokens y.0));
   }
 
--- Production with a leading token: the trees that begin with it are those made of a part, and the part stands behind it.
-pub record Leads {K P T : Type 0} (form : Form K T) (t : K) (part : Form K P) (make : P → T) : Type 0 where
-  pub tokens : (p : P) → form.tokens (make p) ≡ t ∷ part.tokens p
+-- A production with a fixed front: the trees that begin with it are those made of a part, and the part stands behind it.
+pub record Leads {K P T : Type 0} (form : Form K T) (front : List K) (part : Form K P) (make : P → T) : Type 0 where
+  pub tokens : (p : P) → form.tokens (make p) ≡ front ++ part.tokens p
   pub good : (p : P) → part.Good p → form.Good (make p)
   pub good_back : (p : P) → form.Good (make p) → part.Good p
   pub extends : (p : P) (k : K) → form.extends (make p) k ≡ false → part.extends p k ≡ false
-  pub only : (x : T) (s after : List K) → form.Good x → t ∷ s ≡ form.tokens x ++ after → (p : P) × (x ≡ make p)
+  pub only : (x : T) (s after : List K) → form.Good x → begins (form.extends x) after ≡ false → front ++ s ≡ form.tokens x ++ after →
+    (p : P) × (x ≡ make p)
 
-uncons : {K : Type 0} (t : K) (xs ys : List K) → t ∷ xs ≡ t ∷ ys → xs ≡ ys
-uncons t xs ys e = cc
-
-module _ {K P T : Type 0} (form : Form K T) (t : K) (part : Form K P) (make : P → T) (l : Leads form t part make) where
-  behind_lead : (other : T) (p : P) (s after : List K) → other ≡ make p → t ∷ s ≡ form.tokens other ++ after → s ≡ part.tokens p ++ after
+module _ {K P T : Type 0} (form : Form K T) (front : List K) (part : Form K P) (make : P → T) (l : Leads form front part make) where
+  behind_lead : (other : T) (p : P) (s after : List K) → other ≡ make p → front ++ s ≡ form.tokens other ++ after → s ≡ part.tokens p ++ after
   behind_lead other p s after is e =
-      uncons t _ _ (e ∙ ap (λ o. form.tokens o ++ after) is ∙ ap (λ ts. ts ++ after) (l.tokens p))
+      append_cancel_left front s (part.tokens p ++ after)
+      (e ∙ ap (λ o. form.tokens o ++ after) is ∙ ap (λ ts. ts ++ after) (l.tokens p) ∙ append_assoc front (part.tokens p) after)
 
   quiet_part : (other : T) (p : P) (after : List K) → other ≡ make p → begins (form.extends other) after ≡ false → begins (part.extends p) after ≡ false
   quiet_part other p after is q =
@@ -97,20 +96,23 @@ module _ {K P T : Type 0} (form : Form K T) (t : K) (part : Form K P) (make : P 
   lead_reads p rest r = record {
     good = l.good p r.good;
     only = λ s other after same good quiet e.
-      let e' : t ∷ (part.tokens p ++ s) ≡ form.tokens other ++ after = ap (λ ts. ts ++ s) (sym (l.tokens p)) ∙ e in
-      let q = l.only other (part.tokens p ++ s) after good e' in
+      let e' : front ++ (part.tokens p ++ s) ≡ form.tokens other ++ after =
+          sym (append_assoc front (part.tokens p) s) ∙ ap (λ ts. ts ++ s) (sym (l.tokens p)) ∙ e in
+      let q = l.only other (part.tokens p ++ s) after good quiet e' in
       let found = r.only s q.0 after same (l.good_back q.0 (subst form.Good q.1 good)) (quiet_part other q.0 after q.1 quiet)
           (behind_lead other q.0 (part.tokens p ++ s) after q.1 e') in
       (q.1 ∙ ap make found.0, found.1);
   }
 
-  pub lead_refuses : (before bad : List K) → Refuses part before bad → Refuses form (t ∷ before) bad
+  pub lead_refuses : (before bad : List K) → Refuses part before bad → Refuses form (front ++ before) bad
   lead_refuses before bad r = record {
-    begun = (r.begun.0, make r.begun.1, l.good r.begun.1 r.begun.2, ap (λ ts. t ∷ ts) r.begun.3 ∙ sym (l.tokens r.begun.1));
+    begun = (r.begun.0, make r.begun.1, l.good r.begun.1 r.begun.2,
+      append_assoc front before r.begun.0 ∙ ap (λ ts. front ++ ts) r.begun.3 ∙ sym (l.tokens r.begun.1));
     never = λ s other after same good quiet e.
-      let q = l.only other (before ++ s) after good e in
+      let e' : front ++ (before ++ s) ≡ form.tokens other ++ after = sym (append_assoc front before s) ∙ e in
+      let q = l.only other (before ++ s) after good quiet e' in
       r.never s q.0 after same (l.good_back q.0 (subst form.Good q.1 good)) (quiet_part other q.0 after q.1 quiet)
-      (behind_lead other q.0 (before ++ s) after q.1 e);
+      (behind_lead other q.0 (before ++ s) after q.1 e');
   }
 
 -- a tree of one token, or of the tokens that are already taken
@@ -289,3 +291,33 @@ reads_leaf token inj n rest = record {
   good = tt;
   only = λ s other after same good quiet e. let both = heads (token n) (token other) s after e in (inj n other both.0, sym both.1);
 }
+
+-- A refusal stands behind tokens that begin a tree.
+pub refuses_later : {K T : Type 0} (form : Form K T) (before bad front : List K) (k : K) (tail more : List K) (x : T) → Refuses form before bad →
+    before ++ bad ≡ front ++ (k ∷ tail) → form.Good x → form.tokens x ≡ front ++ (k ∷ more) → (rest : List K) × (before ≡ front ++ (k ∷ rest))
+refuses_later {K} form before bad front k tail more x r split good spelled = decide (total (length before) (length front))
+  where
+    same_behind : (d bad : List K) → bad ≡ d ++ (k ∷ tail) → SameStart bad (d ++ (k ∷ more))
+    same_behind [] bad e = subst (λ l. SameStart l (k ∷ more)) (sym e) (more, refl)
+    same_behind (y ∷ d) bad e = subst (λ l. SameStart l (y ∷ (d ++ (k ∷ more)))) (sym e) (d ++ (k ∷ more), refl)
+
+    long : (m : List K) → front ++ (k ∷ tail) ≡ before ++ bad → before ≡ front ++ m → (m ≡ [] → ⊥) → (rest : List K) × (before ≡ front ++ (k ∷ rest))
+    long [] e is some = absurd (some refl)
+    long (y ∷ m) e is some =
+        let both : k ∷ tail ≡ y ∷ (m ++ bad) =
+            append_cancel_left front (k ∷ tail) (y ∷ (m ++ bad)) (e ∙ ap (λ l. l ++ bad) is ∙ append_assoc front (y ∷ m) bad) in
+        let first : y ≡ k = cc in
+        (m, is ∙ ap (λ z. front ++ (z ∷ m)) first)
+
+    decide : (length before ≤ length front) ⊎ (length front ≤ length before) → (rest : List K) × (before ≡ front ++ (k ∷ rest))
+    decide (inl le) =
+        let cut = splits front (k ∷ tail) before bad (sym split) le in
+        absurd (r.never (cut.0 ++ (k ∷ more)) x [] (same_behind cut.0 bad cut.2) good refl
+          (sym (append_assoc before cut.0 (k ∷ more)) ∙ ap (λ l. l ++ (k ∷ more)) (sym cut.1) ∙ sym spelled ∙ sym (append-nil (form.tokens x))))
+    decide (inr le) =
+        let cut = splits before bad front (k ∷ tail) split le in
+        long cut.0 (sym split) cut.1
+        (λ none.
+          let e : before ≡ front = cut.1 ∙ ap (λ l. front ++ l) none ∙ append-nil front in
+          r.never (k ∷ more) x [] (same_behind [] bad (sym (cut.2 ∙ ap (λ l. l ++ bad) none))) good refl
+          (ap (λ l. l ++ (k ∷ more)) e ∙ sym spelled ∙ sym (append-nil (form.tokens x))))

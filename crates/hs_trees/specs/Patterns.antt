@@ -1,9 +1,9 @@
 -- The grammar of patterns (Haskell 2010 Report, section 3.17.1): the tokens of a tree, how deep it is, and which trees there are.
 use Rattle.std.specs.Prelude.{◌≡◌, ℕ, ◌+◌, ◌<◌, max, Bool, true, false, not, ◌&&◌, ◌||◌, nat_lt, List, [], ◌∷◌, ◌++◌, length, flat_map, map, replicate, Option, Some, None}
 use Rattle.std.specs.Str.{bytes_eq}
-use Rattle.hs_trees.specs.Reading.{Form}
+use Rattle.hs_trees.specs.Reading.{Form, begins}
 use Rattle.hs_trees.specs.Answers.{Within, lowered, deepest, all_of}
-use Rattle.hs_trees.specs.Terminals.{is_at, is_comma, starts_qconop, minus}
+use Rattle.hs_trees.specs.Terminals.{is_at, is_comma, is_minus, starts_qconop, minus}
 use Rattle.hs_trees.specs.declared.terminal.Terminal.{Terminal}
 use Rattle.hs_trees.specs.declared.terminal.Terminal.TheVariants as t
 use Rattle.hs_trees.specs.declared.patterns.LiteralTree.{LiteralTree}
@@ -167,6 +167,10 @@ starts_apat t.Underscore = true
 starts_apat t.Tilde = true
 starts_apat _ = false
 
+-- the tokens that begin an `lpat`
+abbrev pub starts_lpat : Terminal → Bool
+starts_lpat k = starts_apat k || is_minus k
+
 -- Whether a pattern begins here.
 abbrev pub starts_pat : Ts → Bool
 starts_pat [] = false
@@ -181,6 +185,10 @@ opens_name (t.VarSym name) = true
 opens_name (t.ConSym name) = true
 opens_name t.Colon = true
 opens_name _ = false
+
+-- What stands behind a `(` begins patterns, if it is not refused.
+abbrev pub opens_pat : Ts → Bool
+opens_pat ts = not (begins opens_name ts) || starts_pat ts
 
 -- Trees within a limit. An `apat` goes on with `@` if it is a name.
 abbrev pub apat_form : Option ℕ → Form Terminal APatTree
@@ -223,6 +231,9 @@ pat_form limit = record {
   Good = λ x. (is_pat x ≡ true) × Within limit (depth_of_pat x);
   extends = λ x k. (starts_apat k || is_at k) || starts_qconop k;
 }
+
+abbrev pub qconop_form : Form Terminal QConOpTree
+qconop_form = record { tokens = qconop_tokens; Good = λ x. Unit {0}; extends = λ x k. false }
 
 -- patterns between commas
 abbrev pub Pats : Type 0
