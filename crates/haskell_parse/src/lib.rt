@@ -4,7 +4,9 @@
 
 mod leaf;
 mod limit;
+mod names;
 mod parse_types;
+mod patterns;
 mod tuple_name;
 mod types;
 

@@ -12,3 +12,6 @@ pub use fault::Fault;
 pub use types::{AKindTree, ATypeTree, BTypeTree, KindTree, TypeTree};
 pub use patterns::{APatTree, GConTree, LPatTree, LiteralTree, OpLPat, PatTree, QConOpTree, VarTree};
 pub use terminal::{Terminal, Terminals, terminal_of, terminals_of};
+
+#[cfg(test)]
+mod tests;
