@@ -1,9 +1,9 @@
 -- A chain as one record, and its reader's loop.
-use Rattle.std.proofs.Common.{◌≡◌, ℕ, zero, suc, ◌+◌, ◌<◌, ◌≤◌, Bool, true, false, List, [], ◌∷◌, ◌++◌, length, refl, sym, ap, ◌∙◌, subst, append_assoc, true≢false, arith, length-append}
+use Rattle.std.proofs.Common.{◌≡◌, ℕ, ◌+◌, ◌<◌, Bool, true, false, List, [], ◌∷◌, ◌++◌, length, refl, sym, ap, ◌∙◌, append_assoc, arith, length-append}
 use Rattle.std.specs.Prelude.{flat_map, map, max}
 use Rattle.std.proofs.lemmas.List.{append-nil}
 use Rattle.std.proofs.lemmas.Grind.{flat_map-append}
-use Rattle.hs_trees.specs.Reading.{Form, begins, Reads, Refuses}
+use Rattle.hs_trees.specs.Reading.{Form, begins, Refuses}
 use Rattle.hs_trees.specs.Answers.{Accepts, Rejects, Fails, deepest}
 use Rattle.hs_trees.specs.declared.fault.Fault.{Fault}
 use Rattle.hs_trees.specs.declared.fault.Fault.TheVariants.{At, NoMemory}

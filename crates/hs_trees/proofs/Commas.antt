@@ -1,8 +1,7 @@
 -- The commas of a tuple's name.
-use Rattle.std.proofs.Common.{◌≡◌, ℕ, zero, suc, ◌+◌, ◌<◌, ◌≤◌, Bool, true, false, List, [], ◌∷◌, ◌++◌, length, refl, sym, ap, ◌∙◌, subst, append_assoc, true≢false, arith, length-append}
+use Rattle.std.proofs.Common.{◌≡◌, ℕ, zero, suc, ◌+◌, ◌<◌, ◌≤◌, Bool, true, false, List, [], ◌∷◌, ◌++◌, length, refl, sym, ap, ◌∙◌, append_assoc, true≢false, arith, length-append}
 use Rattle.std.specs.Prelude.{replicate}
-use Rattle.std.proofs.lemmas.List.{append-nil}
-use Rattle.hs_trees.specs.Reading.{Form, SameStart, begins, Reads, Refuses}
+use Rattle.hs_trees.specs.Reading.{begins, Reads, Refuses}
 use Rattle.hs_trees.specs.Answers.{Accepts}
 use Rattle.hs_trees.specs.Types.{tuple_name_form}
 use Rattle.hs_trees.specs.Terminals.{is_comma, is_right_paren}
@@ -49,7 +48,7 @@ pub name_refused : (n : ℕ) (bad : List Terminal) → 0 < n → n < 15 → begi
 name_refused n bad some most c p = record {
   begun = (t.RightParen ∷ [], n, (some, most), refl);
   never = λ s other after same good quiet e.
-    no_name n other s after (begins_same is_comma bad s same ∙ c) (begins_same is_right_paren bad s same ∙ p) e;
+      no_name n other s after (begins_same is_comma bad s same ∙ c) (begins_same is_right_paren bad s same ∙ p) e;
 }
 
 no_comma : (m : ℕ) (s after : List Terminal) → 0 < m → begins is_comma s ≡ false → s ≡ name m ++ after → ⊥
@@ -77,7 +76,7 @@ pub name_ok : (ts : List Terminal) (n : ℕ) (rest after : List Terminal) → ts
     0 < n → n < 15 → Accepts tuple_name_form (λ commas. 0) ts n after 0
 name_ok ts n rest after split at some most =
     let spelled : ts ≡ name n ++ after =
-        split ∙ ap (λ l. replicate n t.Comma ++ l) at ∙ sym (append_assoc (replicate n t.Comma) (t.RightParen ∷ []) after) in
+    split ∙ ap (λ l. replicate n t.Comma ++ l) at ∙ sym (append_assoc (replicate n t.Comma) (t.RightParen ∷ []) after) in
     record {
       spelled = spelled;
       reads = name_read n after some most;

@@ -1,5 +1,5 @@
 -- How readings are put together: a head and a chain of items, and a token before a form.
-use Rattle.std.proofs.Common.{◌≡◌, ℕ, ◌+◌, Bool, true, false, List, [], ◌∷◌, ◌++◌, length, refl, sym, ap, ◌∙◌, subst, append_assoc, true≢false}
+use Rattle.std.proofs.Common.{◌≡◌, ℕ, Bool, true, false, List, [], ◌∷◌, ◌++◌, length, refl, sym, ap, ◌∙◌, subst, append_assoc, true≢false}
 use Rattle.std.specs.Prelude.{flat_map}
 use Rattle.std.proofs.lemmas.Grind.{flat_map-append}
 use Rattle.std.proofs.lemmas.List.{append-nil}
@@ -73,8 +73,8 @@ pub record SoFar {K T H X : Type 0} (form : Form K T) (head : Form K H) (items :
     (h : H) (xs : List X) (here : List K) : Type 0 where
   pub good : form.Good (make h xs)
   pub only : (s : List K) (h' : H) (xs' : List X) (after : List K) → SameStart here s → form.Good (make h' xs') →
-    begins (form.extends (make h' xs')) after ≡ false → (head.tokens h ++ flat_map items xs) ++ s ≡ (head.tokens h' ++ flat_map items xs') ++ after →
-    (h' ≡ h) × (more : List X) × (xs' ≡ xs ++ more) × (s ≡ flat_map items more ++ after)
+      begins (form.extends (make h' xs')) after ≡ false → (head.tokens h ++ flat_map items xs) ++ s ≡ (head.tokens h' ++ flat_map items xs') ++ after →
+      (h' ≡ h) × (more : List X) × (xs' ≡ xs ++ more) × (s ≡ flat_map items more ++ after)
 
 regroup_more : {K X : Type 0} (items : X → List K) (front : List K) (xs : List X) (x : X) (s : List K) →
     (front ++ flat_map items (xs ++ x ∷ [])) ++ s ≡ (front ++ flat_map items xs) ++ (items x ++ s)
@@ -83,7 +83,6 @@ regroup_more items front xs x s =
 
 module _ {K T H X : Type 0} (form : Form K T) (head : Form K H) (items : X → List K) (item : ℕ → X → Type 0)
     (inner : X → K → Bool) (starter : K → Bool) (make : H → List X → T) (c : IsChain form head items item inner starter make) where
-
   pub quiet_inner : (h : H) (xs : List X) (x : X) (more : List X) (after : List K) → form.Good (make h (xs ++ x ∷ more)) →
       begins (form.extends (make h (xs ++ x ∷ more))) after ≡ false → begins (inner x) (flat_map items more ++ after) ≡ false
   quiet_inner h xs x [] after g q = begins_within (form.extends (make h (xs ++ x ∷ []))) (inner x) after (c.ends_item h xs x) q
@@ -108,10 +107,10 @@ module _ {K T H X : Type 0} (form : Form K T) (head : Form K H) (items : X → L
   chain_first h rest r good = record {
     good = good;
     only = λ s h' xs' after same g quiet e.
-      let e' : head.tokens h ++ s ≡ head.tokens h' ++ (flat_map items xs' ++ after) =
-          sym (ap (λ front. front ++ s) (append-nil (head.tokens h))) ∙ e ∙ append_assoc (head.tokens h') (flat_map items xs') after in
-      let found = r.only s h' (flat_map items xs' ++ after) same (c.good_head h' xs' g) (quiet_head h' xs' after g quiet) e' in
-      (found.0, xs', refl, sym found.1);
+        let e' : head.tokens h ++ s ≡ head.tokens h' ++ (flat_map items xs' ++ after) =
+        sym (ap (λ front. front ++ s) (append-nil (head.tokens h))) ∙ e ∙ append_assoc (head.tokens h') (flat_map items xs') after in
+        let found = r.only s h' (flat_map items xs' ++ after) same (c.good_head h' xs' g) (quiet_head h' xs' after g quiet) e' in
+        (found.0, xs', refl, sym found.1);
   }
 
   step_more : (xs : List X) (x : X) (rest : List K) → Reads (item_form items item inner (length xs)) x rest →
@@ -123,7 +122,7 @@ module _ {K T H X : Type 0} (form : Form K T) (head : Form K H) (items : X → L
   step_more xs x rest r s h h' xs' after same g quiet eh (y ∷ more) ex e =
       let g' = subst (λ l. form.Good (make h' l)) ex g in
       let found = r.only s y (flat_map items more ++ after) same (c.good_item h' xs y more g') (quiet_inner h' xs y more after g' (subst (λ l. begins (form.extends (make h' l)) after ≡ false) ex quiet))
-          (e ∙ append_assoc (items y) (flat_map items more) after) in
+      (e ∙ append_assoc (items y) (flat_map items more) after) in
       (eh, more, ex ∙ ap (λ v. xs ++ v ∷ more) found.0 ∙ sym (append_assoc xs (x ∷ []) more), sym found.1)
 
   pub chain_step : (h : H) (xs : List X) (x : X) (here rest : List K) → SoFar form head items make h xs here → here ≡ items x ++ rest →
@@ -132,9 +131,9 @@ module _ {K T H X : Type 0} (form : Form K T) (head : Form K H) (items : X → L
   chain_step h xs x here rest so at r good = record {
     good = good;
     only = λ s h' xs' after same g quiet e.
-      let same' : SameStart here (items x ++ s) = subst (λ l. SameStart l (items x ++ s)) (sym at) (same_start_append (items x) rest s same) in
-      let found = so.only (items x ++ s) h' xs' after same' g quiet (sym (regroup_more items (head.tokens h) xs x s) ∙ e) in
-      step_more xs x rest r s h h' xs' after same g quiet found.0 found.1 found.2 found.3;
+        let same' : SameStart here (items x ++ s) = subst (λ l. SameStart l (items x ++ s)) (sym at) (same_start_append (items x) rest s same) in
+        let found = so.only (items x ++ s) h' xs' after same' g quiet (sym (regroup_more items (head.tokens h) xs x s) ∙ e) in
+        step_more xs x rest r s h h' xs' after same g quiet found.0 found.1 found.2 found.3;
   }
 
   stop_more : (xs : List X) (here s : List K) (h h' : H) (xs' : List X) (after : List K) → SameStart here s →
@@ -150,14 +149,14 @@ module _ {K T H X : Type 0} (form : Form K T) (head : Form K H) (items : X → L
   chain_stop h xs here so ends = record {
     good = so.good;
     only = λ s other after same g quiet e.
-      let t = c.taken other in
-      let g' = subst form.Good t.2 g in
-      let quiet' = subst (λ o. begins (form.extends o) after ≡ false) t.2 quiet in
-      let e' : (head.tokens h ++ flat_map items xs) ++ s ≡ (head.tokens t.0 ++ flat_map items t.1) ++ after =
-          sym (ap (λ l. l ++ s) (c.spelled h xs)) ∙ e ∙ ap (λ o. form.tokens o ++ after) t.2 ∙ ap (λ l. l ++ after) (c.spelled t.0 t.1) in
-      let found = so.only s t.0 t.1 after same g' quiet' e' in
-      let end = stop_more xs here s h t.0 t.1 after same ends found.0 found.1 found.2 found.3 in
-      (t.2 ∙ end.0, end.1);
+        let t = c.taken other in
+        let g' = subst form.Good t.2 g in
+        let quiet' = subst (λ o. begins (form.extends o) after ≡ false) t.2 quiet in
+        let e' : (head.tokens h ++ flat_map items xs) ++ s ≡ (head.tokens t.0 ++ flat_map items t.1) ++ after =
+        sym (ap (λ l. l ++ s) (c.spelled h xs)) ∙ e ∙ ap (λ o. form.tokens o ++ after) t.2 ∙ ap (λ l. l ++ after) (c.spelled t.0 t.1) in
+        let found = so.only s t.0 t.1 after same g' quiet' e' in
+        let end = stop_more xs here s h t.0 t.1 after same ends found.0 found.1 found.2 found.3 in
+        (t.2 ∙ end.0, end.1);
   }
 
   shut_more : (xs : List X) (s : List K) (h h' : H) (xs' : List X) (after : List K) →
@@ -174,27 +173,31 @@ module _ {K T H X : Type 0} (form : Form K T) (head : Form K H) (items : X → L
   chain_shut h xs here so none = record {
     good = so.good;
     only = λ s other after same g quiet e.
-      let t = c.taken other in
-      let g' = subst form.Good t.2 g in
-      let quiet' = subst (λ o. begins (form.extends o) after ≡ false) t.2 quiet in
-      let e' : (head.tokens h ++ flat_map items xs) ++ s ≡ (head.tokens t.0 ++ flat_map items t.1) ++ after =
-          sym (ap (λ l. l ++ s) (c.spelled h xs)) ∙ e ∙ ap (λ o. form.tokens o ++ after) t.2 ∙ ap (λ l. l ++ after) (c.spelled t.0 t.1) in
-      let found = so.only s t.0 t.1 after same g' quiet' e' in
-      let end = shut_more xs s h t.0 t.1 after none g' found.0 found.1 found.2 found.3 in
-      (t.2 ∙ end.0, end.1);
+        let t = c.taken other in
+        let g' = subst form.Good t.2 g in
+        let quiet' = subst (λ o. begins (form.extends o) after ≡ false) t.2 quiet in
+        let e' : (head.tokens h ++ flat_map items xs) ++ s ≡ (head.tokens t.0 ++ flat_map items t.1) ++ after =
+        sym (ap (λ l. l ++ s) (c.spelled h xs)) ∙ e ∙ ap (λ o. form.tokens o ++ after) t.2 ∙ ap (λ l. l ++ after) (c.spelled t.0 t.1) in
+        let found = so.only s t.0 t.1 after same g' quiet' e' in
+        let end = shut_more xs s h t.0 t.1 after none g' found.0 found.1 found.2 found.3 in
+        (t.2 ∙ end.0, end.1);
   }
 
   pub head_refused : (before bad : List K) → Refuses head before bad → ((h : H) → head.Good h → form.Good (make h [])) →
       Refuses form before bad
   head_refused before bad r complete = record {
-    begun = (r.begun.0, make r.begun.1 [], complete r.begun.1 r.begun.2,
-      r.begun.3 ∙ sym (append-nil (head.tokens r.begun.1)) ∙ sym (c.spelled r.begun.1 []));
+    begun = (
+      r.begun.0,
+      make r.begun.1 [],
+      complete r.begun.1 r.begun.2,
+      r.begun.3 ∙ sym (append-nil (head.tokens r.begun.1)) ∙ sym (c.spelled r.begun.1 []),
+    );
     never = λ s other after same g quiet e.
-      let t = c.taken other in
-      let g' = subst form.Good t.2 g in
-      let quiet' = subst (λ o. begins (form.extends o) after ≡ false) t.2 quiet in
-      r.never s t.0 (flat_map items t.1 ++ after) same (c.good_head t.0 t.1 g') (quiet_head t.0 t.1 after g' quiet')
-      (e ∙ ap (λ o. form.tokens o ++ after) t.2 ∙ ap (λ l. l ++ after) (c.spelled t.0 t.1)
+        let t = c.taken other in
+        let g' = subst form.Good t.2 g in
+        let quiet' = subst (λ o. begins (form.extends o) after ≡ false) t.2 quiet in
+        r.never s t.0 (flat_map items t.1 ++ after) same (c.good_head t.0 t.1 g') (quiet_head t.0 t.1 after g' quiet')
+        (e ∙ ap (λ o. form.tokens o ++ after) t.2 ∙ ap (λ l. l ++ after) (c.spelled t.0 t.1)
         ∙ append_assoc (head.tokens t.0) (flat_map items t.1) after);
   }
 
@@ -213,22 +216,26 @@ module _ {K T H X : Type 0} (form : Form K T) (head : Form K H) (items : X → L
       ((x : X) → item (length xs) x → form.Good (make h (xs ++ x ∷ []))) →
       Refuses form ((head.tokens h ++ flat_map items xs) ++ before) bad
   item_refused h xs here before bad so starts at r complete = record {
-    begun = (r.begun.0, make h (xs ++ r.begun.1 ∷ []), complete r.begun.1 r.begun.2,
+    begun = (
+      r.begun.0,
+      make h (xs ++ r.begun.1 ∷ []),
+      complete r.begun.1 r.begun.2,
       append_assoc (head.tokens h ++ flat_map items xs) before r.begun.0
-      ∙ ap (λ l. (head.tokens h ++ flat_map items xs) ++ l) (r.begun.3 ∙ sym (append-nil (items r.begun.1)))
-      ∙ sym (regroup_more items (head.tokens h) xs r.begun.1 [])
-      ∙ append-nil (head.tokens h ++ flat_map items (xs ++ r.begun.1 ∷ []))
-      ∙ sym (c.spelled h (xs ++ r.begun.1 ∷ [])));
+          ∙ ap (λ l. (head.tokens h ++ flat_map items xs) ++ l) (r.begun.3 ∙ sym (append-nil (items r.begun.1)))
+          ∙ sym (regroup_more items (head.tokens h) xs r.begun.1 [])
+          ∙ append-nil (head.tokens h ++ flat_map items (xs ++ r.begun.1 ∷ []))
+          ∙ sym (c.spelled h (xs ++ r.begun.1 ∷ [])),
+    );
     never = λ s other after same g quiet e.
-      let t = c.taken other in
-      let g' = subst form.Good t.2 g in
-      let quiet' = subst (λ o. begins (form.extends o) after ≡ false) t.2 quiet in
-      let same' : SameStart here (before ++ s) = subst (λ l. SameStart l (before ++ s)) (sym at) (same_start_append before bad s same) in
-      let e' : (head.tokens h ++ flat_map items xs) ++ (before ++ s) ≡ (head.tokens t.0 ++ flat_map items t.1) ++ after =
-          sym (append_assoc (head.tokens h ++ flat_map items xs) before s) ∙ e ∙ ap (λ o. form.tokens o ++ after) t.2
-          ∙ ap (λ l. l ++ after) (c.spelled t.0 t.1) in
-      let found = so.only (before ++ s) t.0 t.1 after same' g' quiet' e' in
-      refused_more xs before bad r s t.0 t.1 after (begins_same starter here (before ++ s) same' ∙ starts) same g' quiet' found.1 found.2 found.3;
+        let t = c.taken other in
+        let g' = subst form.Good t.2 g in
+        let quiet' = subst (λ o. begins (form.extends o) after ≡ false) t.2 quiet in
+        let same' : SameStart here (before ++ s) = subst (λ l. SameStart l (before ++ s)) (sym at) (same_start_append before bad s same) in
+        let e' : (head.tokens h ++ flat_map items xs) ++ (before ++ s) ≡ (head.tokens t.0 ++ flat_map items t.1) ++ after =
+        sym (append_assoc (head.tokens h ++ flat_map items xs) before s) ∙ e ∙ ap (λ o. form.tokens o ++ after) t.2
+        ∙ ap (λ l. l ++ after) (c.spelled t.0 t.1) in
+        let found = so.only (before ++ s) t.0 t.1 after same' g' quiet' e' in
+        refused_more xs before bad r s t.0 t.1 after (begins_same starter here (before ++ s) same' ∙ starts) same g' quiet' found.1 found.2 found.3;
   }
 
   over_more : (xs : List X) (s : List K) (h' : H) (xs' : List X) (after : List K) → begins starter s ≡ true →
@@ -243,15 +250,15 @@ module _ {K T H X : Type 0} (form : Form K T) (head : Form K H) (items : X → L
   chain_over h xs here so starts ends = record {
     begun = ([], make h xs, so.good, append-nil (head.tokens h ++ flat_map items xs) ∙ sym (c.spelled h xs));
     never = λ s other after same g quiet e.
-      let t = c.taken other in
-      let g' = subst form.Good t.2 g in
-      let quiet' = subst (λ o. begins (form.extends o) after ≡ false) t.2 quiet in
-      let e' : (head.tokens h ++ flat_map items xs) ++ s ≡ (head.tokens t.0 ++ flat_map items t.1) ++ after =
-          e ∙ ap (λ o. form.tokens o ++ after) t.2 ∙ ap (λ l. l ++ after) (c.spelled t.0 t.1) in
-      let found = so.only s t.0 t.1 after same g' quiet' e' in
-      over_more xs s t.0 t.1 after (begins_same starter here s same ∙ starts)
-      (λ h'' x more good eq. ends x more (subst (λ a. form.Good (make a (xs ++ x ∷ more))) (eq ∙ found.0) good))
-      g' quiet' found.1 found.2 found.3;
+        let t = c.taken other in
+        let g' = subst form.Good t.2 g in
+        let quiet' = subst (λ o. begins (form.extends o) after ≡ false) t.2 quiet in
+        let e' : (head.tokens h ++ flat_map items xs) ++ s ≡ (head.tokens t.0 ++ flat_map items t.1) ++ after =
+        e ∙ ap (λ o. form.tokens o ++ after) t.2 ∙ ap (λ l. l ++ after) (c.spelled t.0 t.1) in
+        let found = so.only s t.0 t.1 after same g' quiet' e' in
+        over_more xs s t.0 t.1 after (begins_same starter here s same ∙ starts)
+        (λ h'' x more good eq. ends x more (subst (λ a. form.Good (make a (xs ++ x ∷ more))) (eq ∙ found.0) good))
+        g' quiet' found.1 found.2 found.3;
   }
 
 -- a form and a token behind it, by which no tree of the form goes on
@@ -266,8 +273,8 @@ module _ {K T : Type 0} (form : Form K T) (t : K) (ends : (x : T) → form.exten
   reads_closed x rest r = record {
     good = r.good;
     only = λ s other after same good quiet e.
-      let found = r.only (t ∷ s) other (t ∷ after) (s, refl) good (ends other) (sym (regroup_closed x s) ∙ e ∙ regroup_closed other after) in
-      (found.0, uncons t _ _ found.1);
+        let found = r.only (t ∷ s) other (t ∷ after) (s, refl) good (ends other) (sym (regroup_closed x s) ∙ e ∙ regroup_closed other after) in
+        (found.0, uncons t _ _ found.1);
   }
 
   pub refuses_closed : (before bad : List K) → Refuses form before bad → Refuses (closed form t) before bad
@@ -294,32 +301,40 @@ module _ {K T U : Type 0} (one : Form K T) (two : Form K U) (fits : T → U → 
   reads_pair x here u rest r at q f = record {
     good = (r.good, q.good, f);
     only = λ s other after same good quiet e.
-      let same' : SameStart here (two.tokens u ++ s) = subst (λ l. SameStart l (two.tokens u ++ s)) (sym at) (same_start_append (two.tokens u) rest s same) in
-      let found = r.only (two.tokens u ++ s) other.0 (two.tokens other.1 ++ after) same' good.0 (quiet_one other.0 other.1 after)
-          (sym (append_assoc (one.tokens x) (two.tokens u) s) ∙ e ∙ append_assoc (one.tokens other.0) (two.tokens other.1) after) in
-      let next = q.only s other.1 after same good.1 quiet (sym found.1) in
-      let whole : other ≡ (x, u) = λ i. (found.0 i, next.0 i) in
-      (whole, next.1);
+        let same' : SameStart here (two.tokens u ++ s) = subst (λ l. SameStart l (two.tokens u ++ s)) (sym at) (same_start_append (two.tokens u) rest s same) in
+        let found = r.only (two.tokens u ++ s) other.0 (two.tokens other.1 ++ after) same' good.0 (quiet_one other.0 other.1 after)
+        (sym (append_assoc (one.tokens x) (two.tokens u) s) ∙ e ∙ append_assoc (one.tokens other.0) (two.tokens other.1) after) in
+        let next = q.only s other.1 after same good.1 quiet (sym found.1) in
+        let whole : other ≡ (x, u) = λ i. (found.0 i, next.0 i) in
+        (whole, next.1);
   }
 
   pub pair_first : (before bad : List K) → Refuses one before bad → (least : U) → ((x : T) → one.Good x → two.Good least × fits x least) →
       Refuses (pair one two fits) before bad
   pair_first before bad r least complete = record {
-    begun = (r.begun.0 ++ two.tokens least, (r.begun.1, least), (r.begun.2, (complete r.begun.1 r.begun.2).0, (complete r.begun.1 r.begun.2).1),
-      sym (append_assoc before r.begun.0 (two.tokens least)) ∙ ap (λ l. l ++ two.tokens least) r.begun.3);
+    begun = (
+      r.begun.0 ++ two.tokens least,
+      (r.begun.1, least),
+      (r.begun.2, (complete r.begun.1 r.begun.2).0, (complete r.begun.1 r.begun.2).1),
+      sym (append_assoc before r.begun.0 (two.tokens least)) ∙ ap (λ l. l ++ two.tokens least) r.begun.3,
+    );
     never = λ s other after same good quiet e.
-      r.never s other.0 (two.tokens other.1 ++ after) same good.0 (quiet_one other.0 other.1 after)
-      (e ∙ append_assoc (one.tokens other.0) (two.tokens other.1) after);
+        r.never s other.0 (two.tokens other.1 ++ after) same good.0 (quiet_one other.0 other.1 after)
+        (e ∙ append_assoc (one.tokens other.0) (two.tokens other.1) after);
   }
 
   pub pair_second : (x : T) (here before bad : List K) → Reads one x here → here ≡ before ++ bad → Refuses two before bad →
       ((u : U) → two.Good u → fits x u) → Refuses (pair one two fits) (one.tokens x ++ before) bad
   pair_second x here before bad r at q complete = record {
-    begun = (q.begun.0, (x, q.begun.1), (r.good, q.begun.2, complete q.begun.1 q.begun.2),
-      append_assoc (one.tokens x) before q.begun.0 ∙ ap (λ l. one.tokens x ++ l) q.begun.3);
+    begun = (
+      q.begun.0,
+      (x, q.begun.1),
+      (r.good, q.begun.2, complete q.begun.1 q.begun.2),
+      append_assoc (one.tokens x) before q.begun.0 ∙ ap (λ l. one.tokens x ++ l) q.begun.3,
+    );
     never = λ s other after same good quiet e.
-      let same' : SameStart here (before ++ s) = subst (λ l. SameStart l (before ++ s)) (sym at) (same_start_append before bad s same) in
-      let found = r.only (before ++ s) other.0 (two.tokens other.1 ++ after) same' good.0 (quiet_one other.0 other.1 after)
-          (sym (append_assoc (one.tokens x) before s) ∙ e ∙ append_assoc (one.tokens other.0) (two.tokens other.1) after) in
-      q.never s other.1 after same good.1 quiet (sym found.1);
+        let same' : SameStart here (before ++ s) = subst (λ l. SameStart l (before ++ s)) (sym at) (same_start_append before bad s same) in
+        let found = r.only (before ++ s) other.0 (two.tokens other.1 ++ after) same' good.0 (quiet_one other.0 other.1 after)
+        (sym (append_assoc (one.tokens x) before s) ∙ e ∙ append_assoc (one.tokens other.0) (two.tokens other.1) after) in
+        q.never s other.1 after same good.1 quiet (sym found.1);
   }

@@ -19,3 +19,6 @@ pub mod PatternAtoms
 pub mod PatternBrackets
 pub mod PatternLPats
 pub mod PatternReturns
+pub mod PatternUnique
+pub mod PatternHits
+pub mod KindReturns

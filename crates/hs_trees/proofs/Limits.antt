@@ -1,5 +1,5 @@
 -- Limits, and lists of depths and tests.
-use Rattle.std.proofs.Common.{◌≡◌, ℕ, zero, suc, ◌+◌, ◌-◌, ◌<◌, ◌≤◌, ◌↔◌, Bool, true, false, List, [], ◌∷◌, ◌++◌, length, refl, sym, ap, ◌∙◌, subst, true≢false, arith}
+use Rattle.std.proofs.Common.{◌≡◌, ℕ, ◌+◌, ◌≤◌, Bool, true, false, List, [], ◌∷◌, ◌++◌, refl, sym, true≢false, arith}
 use Rattle.std.specs.Prelude.{map, max, ◌&&◌, ◌||◌, Option, Some, None}
 use Rattle.hs_trees.specs.Answers.{Within, lowered, deepest, all_of}
 

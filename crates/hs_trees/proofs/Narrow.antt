@@ -1,11 +1,11 @@
 -- A form before certain tokens, one form as another, a production with a leading token, and a choice between two forms.
-use Rattle.std.proofs.Common.{◌≡◌, ℕ, zero, suc, ◌+◌, ◌≤◌, ◌<◌, Bool, true, false, List, [], ◌∷◌, ◌++◌, length, refl, sym, ap, ◌∙◌, subst, append_assoc, true≢false, arith, inl, inr, ◌⊎◌, length-append}
+use Rattle.std.proofs.Common.{◌≡◌, ℕ, zero, suc, ◌≤◌, Bool, true, false, List, [], ◌∷◌, ◌++◌, length, refl, sym, ap, ◌∙◌, subst, append_assoc, true≢false, arith, inl, inr, ◌⊎◌, length-append}
 use Rattle.std.specs.Prelude.{not, min}
 use Rattle.std.proofs.lemmas.List.{append-nil, append_cancel_left}
 use Rattle.hs_trees.specs.Reading.{Form, SameStart, begins, Reads, Refuses}
 use Rattle.hs_trees.specs.Answers.{Rejects}
 use Rattle.hs_trees.proofs.Forms.{same_start_append, begins_within, begins_same, begins_append, closed}
-use Rattle.hs_trees.proofs.Either.{either, side, side_type, refuses_first, splits}
+use Rattle.hs_trees.proofs.Either.{either, refuses_first, splits}
 
 -- Trees that are followed by such a token, or by none.
 abbrev pub narrow : {K T : Type 0} → Form K T → (K → Bool) → Form K T
@@ -37,8 +37,8 @@ module _ {K T : Type 0} (form : Form K T) (follow : K → Bool) (ends : (x : T) 
   narrow_missed x rest r missed = record {
     begun = ([], x, r.good, append-nil (form.tokens x));
     never = λ s other after same good quiet e.
-      let found = r.only s other after same good (quiet_wide other after quiet) e in
-      true≢false (sym missed ∙ sym (begins_same (λ t. not (follow t)) rest s same)
+        let found = r.only s other after same good (quiet_wide other after quiet) e in
+        true≢false (sym missed ∙ sym (begins_same (λ t. not (follow t)) rest s same)
         ∙ ap (begins (λ t. not (follow t))) (sym found.1) ∙ quiet);
   }
 
@@ -55,22 +55,22 @@ module _ {K A B : Type 0} (a : Form K A) (b : Form K B) (f : A → B) (o : Onto 
   reads_onto x rest r = record {
     good = o.good x r.good;
     only = λ s other after same good quiet e.
-      let y = o.back other in
-      let quiet' = begins_within (b.extends (f y.0)) (a.extends y.0) after (o.extends y.0) (subst (λ z. begins (b.extends z) after ≡ false) y.1 quiet) in
-      let e' : a.tokens x ++ s ≡ a.tokens y.0 ++ after =
-          ap (λ l. l ++ s) (sym (o.tokens x)) ∙ e ∙ ap (λ z. b.tokens z ++ after) y.1 ∙ ap (λ l. l ++ after) (o.tokens y.0) in
-      let found = r.only s y.0 after same (o.good_back y.0 (subst b.Good y.1 good)) quiet' e' in
-      (y.1 ∙ ap f found.0, found.1);
+        let y = o.back other in
+        let quiet' = begins_within (b.extends (f y.0)) (a.extends y.0) after (o.extends y.0) (subst (λ z. begins (b.extends z) after ≡ false) y.1 quiet) in
+        let e' : a.tokens x ++ s ≡ a.tokens y.0 ++ after =
+        ap (λ l. l ++ s) (sym (o.tokens x)) ∙ e ∙ ap (λ z. b.tokens z ++ after) y.1 ∙ ap (λ l. l ++ after) (o.tokens y.0) in
+        let found = r.only s y.0 after same (o.good_back y.0 (subst b.Good y.1 good)) quiet' e' in
+        (y.1 ∙ ap f found.0, found.1);
   }
 
   pub refuses_onto : (before bad : List K) → Refuses a before bad → Refuses b before bad
   refuses_onto before bad r = record {
     begun = (r.begun.0, f r.begun.1, o.good r.begun.1 r.begun.2, r.begun.3 ∙ sym (o.tokens r.begun.1));
     never = λ s other after same good quiet e.
-      let y = o.back other in
-      let quiet' = begins_within (b.extends (f y.0)) (a.extends y.0) after (o.extends y.0) (subst (λ z. begins (b.extends z) after ≡ false) y.1 quiet) in
-      r.never s y.0 after same (o.good_back y.0 (subst b.Good y.1 good)) quiet'
-      (e ∙ ap (λ z. b.tokens z ++ after) y.1 ∙ ap (λ l. l ++ after) (o.tokens y.0));
+        let y = o.back other in
+        let quiet' = begins_within (b.extends (f y.0)) (a.extends y.0) after (o.extends y.0) (subst (λ z. begins (b.extends z) after ≡ false) y.1 quiet) in
+        r.never s y.0 after same (o.good_back y.0 (subst b.Good y.1 good)) quiet'
+        (e ∙ ap (λ z. b.tokens z ++ after) y.1 ∙ ap (λ l. l ++ after) (o.tokens y.0));
   }
 
 -- A production with a fixed front: the trees that begin with it are those made of a part, and the part stands behind it.
@@ -80,7 +80,7 @@ pub record Leads {K P T : Type 0} (form : Form K T) (front : List K) (part : For
   pub good_back : (p : P) → form.Good (make p) → part.Good p
   pub extends : (p : P) (k : K) → form.extends (make p) k ≡ false → part.extends p k ≡ false
   pub only : (x : T) (s after : List K) → form.Good x → begins (form.extends x) after ≡ false → front ++ s ≡ form.tokens x ++ after →
-    (p : P) × (x ≡ make p)
+      (p : P) × (x ≡ make p)
 
 module _ {K P T : Type 0} (form : Form K T) (front : List K) (part : Form K P) (make : P → T) (l : Leads form front part make) where
   behind_lead : (other : T) (p : P) (s after : List K) → other ≡ make p → front ++ s ≡ form.tokens other ++ after → s ≡ part.tokens p ++ after
@@ -96,23 +96,27 @@ module _ {K P T : Type 0} (form : Form K T) (front : List K) (part : Form K P) (
   lead_reads p rest r = record {
     good = l.good p r.good;
     only = λ s other after same good quiet e.
-      let e' : front ++ (part.tokens p ++ s) ≡ form.tokens other ++ after =
-          sym (append_assoc front (part.tokens p) s) ∙ ap (λ ts. ts ++ s) (sym (l.tokens p)) ∙ e in
-      let q = l.only other (part.tokens p ++ s) after good quiet e' in
-      let found = r.only s q.0 after same (l.good_back q.0 (subst form.Good q.1 good)) (quiet_part other q.0 after q.1 quiet)
-          (behind_lead other q.0 (part.tokens p ++ s) after q.1 e') in
-      (q.1 ∙ ap make found.0, found.1);
+        let e' : front ++ (part.tokens p ++ s) ≡ form.tokens other ++ after =
+        sym (append_assoc front (part.tokens p) s) ∙ ap (λ ts. ts ++ s) (sym (l.tokens p)) ∙ e in
+        let q = l.only other (part.tokens p ++ s) after good quiet e' in
+        let found = r.only s q.0 after same (l.good_back q.0 (subst form.Good q.1 good)) (quiet_part other q.0 after q.1 quiet)
+        (behind_lead other q.0 (part.tokens p ++ s) after q.1 e') in
+        (q.1 ∙ ap make found.0, found.1);
   }
 
   pub lead_refuses : (before bad : List K) → Refuses part before bad → Refuses form (front ++ before) bad
   lead_refuses before bad r = record {
-    begun = (r.begun.0, make r.begun.1, l.good r.begun.1 r.begun.2,
-      append_assoc front before r.begun.0 ∙ ap (λ ts. front ++ ts) r.begun.3 ∙ sym (l.tokens r.begun.1));
+    begun = (
+      r.begun.0,
+      make r.begun.1,
+      l.good r.begun.1 r.begun.2,
+      append_assoc front before r.begun.0 ∙ ap (λ ts. front ++ ts) r.begun.3 ∙ sym (l.tokens r.begun.1),
+    );
     never = λ s other after same good quiet e.
-      let e' : front ++ (before ++ s) ≡ form.tokens other ++ after = sym (append_assoc front before s) ∙ e in
-      let q = l.only other (before ++ s) after good quiet e' in
-      r.never s q.0 after same (l.good_back q.0 (subst form.Good q.1 good)) (quiet_part other q.0 after q.1 quiet)
-      (behind_lead other q.0 (before ++ s) after q.1 e');
+        let e' : front ++ (before ++ s) ≡ form.tokens other ++ after = sym (append_assoc front before s) ∙ e in
+        let q = l.only other (before ++ s) after good quiet e' in
+        r.never s q.0 after same (l.good_back q.0 (subst form.Good q.1 good)) (quiet_part other q.0 after q.1 quiet)
+        (behind_lead other q.0 (before ++ s) after q.1 e');
   }
 
 -- a tree of one token, or of the tokens that are already taken
@@ -125,7 +129,7 @@ reads_nothing rest = record { good = tt; only = λ s other after same good quiet
 -- A choice of which the second was read, and no tree of the first goes on where it ends.
 pub reads_second : {K T U : Type 0} (one : Form K T) (two : Form K U) (x : U) (rest : List K) → Reads two x rest →
     ((s : List K) (y : T) (after : List K) → SameStart rest s → one.Good y → begins (one.extends y) after ≡ false →
-      two.tokens x ++ s ≡ one.tokens y ++ after → ⊥) → Reads (either one two) (inr x) rest
+    two.tokens x ++ s ≡ one.tokens y ++ after → ⊥) → Reads (either one two) (inr x) rest
 reads_second {K} {T} {U} one two x rest r none = record {
   good = r.good;
   only = λ s other after same good quiet e. choose s other after same good quiet e;
@@ -140,7 +144,7 @@ reads_second {K} {T} {U} one two x rest r none = record {
 -- A choice of which the first was read, and no tree of the second goes on where it ends.
 pub reads_one : {K T U : Type 0} (one : Form K T) (two : Form K U) (x : T) (rest : List K) → Reads one x rest →
     ((s : List K) (y : U) (after : List K) → SameStart rest s → two.Good y → begins (two.extends y) after ≡ false →
-      one.tokens x ++ s ≡ two.tokens y ++ after → ⊥) → Reads (either one two) (inl x) rest
+    one.tokens x ++ s ≡ two.tokens y ++ after → ⊥) → Reads (either one two) (inl x) rest
 reads_one {K} {T} {U} one two x rest r none = record {
   good = r.good;
   only = λ s other after same good quiet e. choose s other after same good quiet e;
@@ -154,7 +158,7 @@ reads_one {K} {T} {U} one two x rest r none = record {
 
 pub refuses_one : {K T U : Type 0} (one : Form K T) (two : Form K U) (before bad : List K) → Refuses one before bad →
     ((s : List K) (y : U) (after : List K) → SameStart bad s → two.Good y → begins (two.extends y) after ≡ false →
-      before ++ s ≡ two.tokens y ++ after → ⊥) → Refuses (either one two) before bad
+    before ++ s ≡ two.tokens y ++ after → ⊥) → Refuses (either one two) before bad
 refuses_one {K} {T} {U} one two before bad r none = record {
   begun = (r.begun.0, inl r.begun.1, r.begun.2, r.begun.3);
   never = λ s other after same good quiet e. choose s other after same good quiet e;
@@ -181,15 +185,19 @@ swapped {K} {T} {U} one two = record {
     back : (y : T ⊎ U) → (x : U ⊎ T) × (y ≡ swap x)
     back (inl a) = (inr a, refl)
     back (inr b) = (inl b, refl)
+
     tokens : (x : U ⊎ T) → (either one two).tokens (swap x) ≡ (either two one).tokens x
     tokens (inl a) = refl
     tokens (inr b) = refl
+
     good : (x : U ⊎ T) → (either two one).Good x → (either one two).Good (swap x)
     good (inl a) h = h
     good (inr b) h = h
+
     good_back : (x : U ⊎ T) → (either one two).Good (swap x) → (either two one).Good x
     good_back (inl a) h = h
     good_back (inr b) h = h
+
     extends : (x : U ⊎ T) (t : K) → (either one two).extends (swap x) t ≡ false → (either two one).extends x t ≡ false
     extends (inl a) t h = h
     extends (inr b) t h = h
@@ -210,12 +218,18 @@ rejects_later {K} {T} {U} one two ts l m r q = decide (total l m)
   where
     decide : (l ≤ m) ⊎ (m ≤ l) → Rejects (either one two) ts (min l m)
     decide (inl le) = record {
-      before = r.before; bad = r.bad; split = r.split; left_is = omega (arith, r.left_is);
+      before = r.before;
+      bad = r.bad;
+      split = r.split;
+      left_is = omega (arith, r.left_is);
       refuses = refuses_first one two r.before r.bad q.before q.bad r.refuses q.refuses (sym r.split ∙ q.split)
           (omega (arith, r.left_is, q.left_is, ap length r.split, ap length q.split, length-append r.before r.bad, length-append q.before q.bad));
     }
     decide (inr le) = record {
-      before = q.before; bad = q.bad; split = q.split; left_is = omega (arith, q.left_is);
+      before = q.before;
+      bad = q.bad;
+      split = q.split;
+      left_is = omega (arith, q.left_is);
       refuses = refuses_onto (either two one) (either one two) swap (swapped one two) q.before q.bad
           (refuses_first two one q.before q.bad r.before r.bad q.refuses r.refuses (sym q.split ∙ r.split)
           (omega (arith, r.left_is, q.left_is, ap length r.split, ap length q.split, length-append r.before r.bad, length-append q.before q.bad)));
@@ -224,7 +238,11 @@ rejects_later {K} {T} {U} one two ts l m r q = decide (total l m)
 pub rejects_by : {K T U : Type 0} (one : Form K T) (two : Form K U) (ts : List K) (left : ℕ) → Rejects one ts left →
     ((before bad : List K) → Refuses one before bad → Refuses two before bad) → Rejects two ts left
 rejects_by one two ts left r f = record {
-  before = r.before; bad = r.bad; split = r.split; left_is = r.left_is; refuses = f r.before r.bad r.refuses;
+  before = r.before;
+  bad = r.bad;
+  split = r.split;
+  left_is = r.left_is;
+  refuses = f r.before r.bad r.refuses;
 }
 
 -- a tree was read, and its closing token does not follow
@@ -233,8 +251,8 @@ pub closing_missed : {K T : Type 0} (form : Form K T) (t : K) (ends : (x : T) �
 closing_missed form t ends is_t is x rest r missed = record {
   begun = (t ∷ [], x, r.good, refl);
   never = λ s other after same good quiet e.
-    let found = r.only s other (t ∷ after) same good (ends other) (e ∙ append_assoc (form.tokens other) (t ∷ []) after) in
-    true≢false (sym is ∙ ap (begins is_t) found.1 ∙ begins_same is_t rest s same ∙ missed);
+      let found = r.only s other (t ∷ after) same good (ends other) (e ∙ append_assoc (form.tokens other) (t ∷ []) after) in
+      true≢false (sym is ∙ ap (begins is_t) found.1 ∙ begins_same is_t rest s same ∙ missed);
 }
 
 -- A production that is known by its first token: the trees that begin so are those made of a part.
@@ -251,23 +269,23 @@ module _ {K P T : Type 0} (form : Form K T) (part : Form K P) (make : P → T) (
   variant_reads p rest r = record {
     good = v.good p r.good;
     only = λ s other after same good quiet e.
-      let e' : part.tokens p ++ s ≡ form.tokens other ++ after = ap (λ ts. ts ++ s) (sym (v.tokens p)) ∙ e in
-      let q = v.only other after good (subst (λ l. begins starter l ≡ true) e' (begins_append starter (part.tokens p) s (v.starts p))) in
-      let found = r.only s q.0 after same (v.good_back q.0 (subst form.Good q.1 good))
-          (begins_within (form.extends (make q.0)) (part.extends q.0) after (v.extends q.0) (subst (λ o. begins (form.extends o) after ≡ false) q.1 quiet))
-          (e' ∙ ap (λ o. form.tokens o ++ after) q.1 ∙ ap (λ ts. ts ++ after) (v.tokens q.0)) in
-      (q.1 ∙ ap make found.0, found.1);
+        let e' : part.tokens p ++ s ≡ form.tokens other ++ after = ap (λ ts. ts ++ s) (sym (v.tokens p)) ∙ e in
+        let q = v.only other after good (subst (λ l. begins starter l ≡ true) e' (begins_append starter (part.tokens p) s (v.starts p))) in
+        let found = r.only s q.0 after same (v.good_back q.0 (subst form.Good q.1 good))
+        (begins_within (form.extends (make q.0)) (part.extends q.0) after (v.extends q.0) (subst (λ o. begins (form.extends o) after ≡ false) q.1 quiet))
+        (e' ∙ ap (λ o. form.tokens o ++ after) q.1 ∙ ap (λ ts. ts ++ after) (v.tokens q.0)) in
+        (q.1 ∙ ap make found.0, found.1);
   }
 
   pub variant_refuses : (before bad : List K) → begins starter (before ++ bad) ≡ true → Refuses part before bad → Refuses form before bad
   variant_refuses before bad starts r = record {
     begun = (r.begun.0, make r.begun.1, v.good r.begun.1 r.begun.2, r.begun.3 ∙ sym (v.tokens r.begun.1));
     never = λ s other after same good quiet e.
-      let first = begins_same starter (before ++ bad) (before ++ s) (same_start_append before bad s same) ∙ starts in
-      let q = v.only other after good (subst (λ l. begins starter l ≡ true) e first) in
-      r.never s q.0 after same (v.good_back q.0 (subst form.Good q.1 good))
-      (begins_within (form.extends (make q.0)) (part.extends q.0) after (v.extends q.0) (subst (λ o. begins (form.extends o) after ≡ false) q.1 quiet))
-      (e ∙ ap (λ o. form.tokens o ++ after) q.1 ∙ ap (λ ts. ts ++ after) (v.tokens q.0));
+        let first = begins_same starter (before ++ bad) (before ++ s) (same_start_append before bad s same) ∙ starts in
+        let q = v.only other after good (subst (λ l. begins starter l ≡ true) e first) in
+        r.never s q.0 after same (v.good_back q.0 (subst form.Good q.1 good))
+        (begins_within (form.extends (make q.0)) (part.extends q.0) after (v.extends q.0) (subst (λ o. begins (form.extends o) after ≡ false) q.1 quiet))
+        (e ∙ ap (λ o. form.tokens o ++ after) q.1 ∙ ap (λ ts. ts ++ after) (v.tokens q.0));
   }
 
 -- No tree begins here.
@@ -276,7 +294,7 @@ pub none_refused : {K T : Type 0} (form : Form K T) (starter : K → Bool) (leas
 none_refused form starter least good starts bad ends = record {
   begun = (form.tokens least, least, good, refl);
   never = λ s other after same g quiet e.
-    true≢false (sym (begins_append starter (form.tokens other) after (starts other g)) ∙ ap (begins starter) (sym e) ∙ begins_same starter bad s same ∙ ends);
+      true≢false (sym (begins_append starter (form.tokens other) after (starts other g)) ∙ ap (begins starter) (sym e) ∙ begins_same starter bad s same ∙ ends);
 }
 
 -- a tree of one token
@@ -305,7 +323,7 @@ refuses_later {K} form before bad front k tail more x r split good spelled = dec
     long [] e is some = absurd (some refl)
     long (y ∷ m) e is some =
         let both : k ∷ tail ≡ y ∷ (m ++ bad) =
-            append_cancel_left front (k ∷ tail) (y ∷ (m ++ bad)) (e ∙ ap (λ l. l ++ bad) is ∙ append_assoc front (y ∷ m) bad) in
+        append_cancel_left front (k ∷ tail) (y ∷ (m ++ bad)) (e ∙ ap (λ l. l ++ bad) is ∙ append_assoc front (y ∷ m) bad) in
         let first : y ≡ k = cc in
         (m, is ∙ ap (λ z. front ++ (z ∷ m)) first)
 
@@ -313,11 +331,11 @@ refuses_later {K} form before bad front k tail more x r split good spelled = dec
     decide (inl le) =
         let cut = splits front (k ∷ tail) before bad (sym split) le in
         absurd (r.never (cut.0 ++ (k ∷ more)) x [] (same_behind cut.0 bad cut.2) good refl
-          (sym (append_assoc before cut.0 (k ∷ more)) ∙ ap (λ l. l ++ (k ∷ more)) (sym cut.1) ∙ sym spelled ∙ sym (append-nil (form.tokens x))))
+        (sym (append_assoc before cut.0 (k ∷ more)) ∙ ap (λ l. l ++ (k ∷ more)) (sym cut.1) ∙ sym spelled ∙ sym (append-nil (form.tokens x))))
     decide (inr le) =
         let cut = splits before bad front (k ∷ tail) split le in
         long cut.0 (sym split) cut.1
         (λ none.
-          let e : before ≡ front = cut.1 ∙ ap (λ l. front ++ l) none ∙ append-nil front in
-          r.never (k ∷ more) x [] (same_behind [] bad (sym (cut.2 ∙ ap (λ l. l ++ bad) none))) good refl
-          (ap (λ l. l ++ (k ∷ more)) e ∙ sym spelled ∙ sym (append-nil (form.tokens x))))
+        let e : before ≡ front = cut.1 ∙ ap (λ l. front ++ l) none ∙ append-nil front in
+        r.never (k ∷ more) x [] (same_behind [] bad (sym (cut.2 ∙ ap (λ l. l ++ bad) none))) good refl
+        (ap (λ l. l ++ (k ∷ more)) e ∙ sym spelled ∙ sym (append-nil (form.tokens x))))

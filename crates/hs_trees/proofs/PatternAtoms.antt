@@ -1,14 +1,13 @@
 -- How an `apat` is read or refused, production by production.
-use Rattle.std.proofs.Common.{◌≡◌, ℕ, zero, suc, ◌+◌, ◌<◌, ◌≤◌, Bool, true, false, List, [], ◌∷◌, ◌++◌, length, refl, sym, ap, ◌∙◌, subst, append_assoc, true≢false, arith, length-append}
-use Rattle.std.specs.Prelude.{flat_map, map, max, replicate, not, ◌&&◌, ◌||◌, nat_lt, Option, Some, None}
-use Rattle.std.specs.Str.{bytes_eq}
+use Rattle.std.proofs.Common.{◌≡◌, ℕ, zero, suc, ◌+◌, ◌<◌, Bool, true, false, List, [], ◌∷◌, ◌++◌, length, refl, sym, ap, ◌∙◌, subst, append_assoc, true≢false, arith, length-append}
+use Rattle.std.specs.Prelude.{replicate, Option}
 use Rattle.std.proofs.lemmas.List.{append-nil}
 use Rattle.std.proofs.lemmas.Bool.Decides.{nat_tests}
-use Rattle.hs_trees.specs.Reading.{Form, SameStart, begins, Reads, Refuses}
-use Rattle.hs_trees.specs.Answers.{Within, lowered, deepest, Accepts, Rejects, Fails}
-use Rattle.hs_trees.specs.Terminals.{is_at, is_comma, is_integer, is_right_paren, is_right_bracket, is_con, minus}
+use Rattle.hs_trees.specs.Reading.{SameStart, begins, Reads, Refuses}
+use Rattle.hs_trees.specs.Answers.{Within, lowered, Accepts, Rejects, Fails}
+use Rattle.hs_trees.specs.Terminals.{is_at, is_comma, is_integer, is_right_paren, is_con}
 use Rattle.hs_trees.specs.Types.{tuple_name_form}
-use Rattle.hs_trees.specs.Patterns.{Ts, literal_token, var_tokens, gcon_tokens, spelling_apat, spelling_pat, is_gcon, is_apat, depth_of_apat, depth_of_pat, starts_apat, starts_pat, opens_name, apat_form, pat_form, Pats, pats_form, spelling_pats, depth_of_pats}
+use Rattle.hs_trees.specs.Patterns.{Ts, literal_token, var_tokens, gcon_tokens, spelling_apat, is_gcon, is_apat, depth_of_apat, starts_apat, starts_pat, opens_name, apat_form, Pats}
 use Rattle.hs_trees.specs.declared.terminal.Terminal.{Terminal}
 use Rattle.hs_trees.specs.declared.terminal.Terminal.TheVariants as t
 use Rattle.hs_trees.specs.declared.fault.Fault.{Fault}
@@ -18,15 +17,14 @@ use Rattle.hs_trees.specs.declared.patterns.VarTree.{VarTree}
 use Rattle.hs_trees.specs.declared.patterns.VarTree.TheVariants as v
 use Rattle.hs_trees.specs.declared.patterns.GConTree.{GConTree}
 use Rattle.hs_trees.specs.declared.patterns.GConTree.TheVariants as g
-use Rattle.hs_trees.specs.declared.patterns.APatTree.{APatTree, APatTree-F, roll-APatTree}
+use Rattle.hs_trees.specs.declared.patterns.APatTree.{APatTree, APatTree-F}
 use Rattle.hs_trees.specs.declared.patterns.APatTree.TheVariants as a
-use Rattle.hs_trees.proofs.Forms.{begins_append, begins_same, same_start_append, closed, reads_closed, refuses_closed}
-use Rattle.hs_trees.proofs.Limits.{within_less, within_lowered, within_raised, within_zero, and_left, and_right, and_both}
+use Rattle.hs_trees.proofs.Forms.{begins_same, same_start_append}
+use Rattle.hs_trees.proofs.Limits.{within_less, within_lowered, within_raised, within_zero}
 use Rattle.hs_trees.proofs.Chains.{fails_after}
 use Rattle.hs_trees.proofs.Narrow.{Leads, lead_reads, lead_refuses, Variant, variant_reads, leaf, reads_leaf, none_refused}
-use Rattle.hs_trees.proofs.Commas.{name_read}
 use Rattle.hs_trees.proofs.PatternLayers.{apat_spelled, apat_deep, apat_is, apat_starts}
-use Rattle.hs_trees.proofs.PatternCases.{are_pats, parts_spelled, parts_deep, parts_are, list_spelled, list_deep, list_are, as_spelled, as_deep, as_is, lazy_spelled, lazy_deep, lazy_is, var_spelled, var_deep, var_is, con_spelled, con_deep, con_is, is_underscore, is_literal, is_tilde, is_name, pat_no_name, pats_start, ParenCase, of_unit, of_tuple, of_con, of_colon, of_var, of_as, of_parts, paren_cases, BracketCase, of_nil, of_list, bracket_cases, VarCase, of_name, of_bound, var_cases, wild_only, con_only, literal_only, lazy_only, of_layer}
+use Rattle.hs_trees.proofs.PatternCases.{parts_deep, as_spelled, as_deep, as_is, lazy_spelled, lazy_deep, lazy_is, var_spelled, var_deep, var_is, con_spelled, con_deep, con_is, is_underscore, is_literal, is_tilde, is_name, pat_no_name, pats_start, ParenCase, of_unit, of_tuple, of_con, of_colon, of_var, of_as, of_parts, paren_cases, VarCase, of_name, of_bound, var_cases, wild_only, con_only, literal_only, lazy_only, of_layer}
 
 var_long : (n : VarTree) → 0 < length (var_tokens n)
 var_long (v.Id n) = omega arith
@@ -58,7 +56,7 @@ module _ (limit : Option ℕ) where
   var_read n rest ends = record {
     good = var_good n;
     only = λ s other after same good quiet e.
-      decide s other after same (var_cases n other s after good.0 (ap (λ l. l ++ s) (sym (var_spelled n)) ∙ e));
+        decide s other after same (var_cases n other s after good.0 (ap (λ l. l ++ s) (sym (var_spelled n)) ∙ e));
   }
     where
       decide : (s : Ts) (other : APatTree) (after : Ts) → SameStart rest s → VarCase n other s after → (other ≡ a.Var n) × (after ≡ s)
@@ -77,7 +75,10 @@ module _ (limit : Option ℕ) where
   -- no depth is left for `@`
   pub name_over : (n : VarTree) (here next : Ts) → here ≡ t.At ∷ next → (Within limit 1 → ⊥) → Rejects (apat_form limit) (var_tokens n ++ here) (length here)
   name_over n here next at over = record {
-    before = var_tokens n; bad = here; split = refl; left_is = refl;
+    before = var_tokens n;
+    bad = here;
+    split = refl;
+    left_is = refl;
     refuses = record {
       begun = ([], a.Var n, var_good n, append-nil (var_tokens n) ∙ sym (var_spelled n));
       never = λ s other after same good quiet e. decide s other after same good quiet (var_cases n other s after good.0 e);
@@ -98,7 +99,7 @@ module _ (limit : Option ℕ) where
     good_back = λ x g. (sym (as_is n x) ∙ g.0, within_lowered limit (depth_of_apat x) 1 (subst (Within limit) (as_deep n x) g.1));
     extends = λ x k e. e;
     only = λ x s after good quiet e.
-      only x s after quiet (var_cases n x (t.At ∷ s) after good.0 (sym (append_assoc (var_tokens n) (t.At ∷ []) s) ∙ e));
+        only x s after quiet (var_cases n x (t.At ∷ s) after good.0 (sym (append_assoc (var_tokens n) (t.At ∷ []) s) ∙ e));
   }
     where
       only : (x : APatTree) (s after : Ts) → begins is_at after ≡ false → VarCase n x (t.At ∷ s) after → (p : APatTree) × (x ≡ a.As n p)
@@ -119,7 +120,7 @@ module _ (limit : Option ℕ) where
       let acc' = subst (λ l. Accepts (apat_form l) depth_of_apat next x rest d) same acc in
       record {
         spelled = ap (λ l. var_tokens n ++ l) (at ∙ ap (λ l. t.At ∷ l) acc'.spelled)
-          ∙ sym (append_assoc (var_tokens n) (t.At ∷ spelling_apat x) rest) ∙ ap (λ l. l ++ rest) (sym (as_spelled n x));
+            ∙ sym (append_assoc (var_tokens n) (t.At ∷ spelling_apat x) rest) ∙ ap (λ l. l ++ rest) (sym (as_spelled n x));
         reads = lead_reads (apat_form limit) (var_tokens n ++ t.At ∷ []) (apat_form (lowered limit 1)) (a.As n) (as_leads one n) x rest acc'.reads;
         measured_is = ap (λ n. n + 1) acc'.measured_is ∙ sym (as_deep n x);
         room = omega (arith, acc'.room, ap length at, length-append (var_tokens n) here, var_long n);
@@ -155,12 +156,15 @@ module _ (limit : Option ℕ) where
 
   pub lazy_over : (ts next : Ts) → ts ≡ t.Tilde ∷ next → (Within limit 1 → ⊥) → Rejects (apat_form limit) ts (length ts)
   lazy_over ts next at over = record {
-    before = []; bad = ts; split = refl; left_is = refl;
+    before = [];
+    bad = ts;
+    split = refl;
+    left_is = refl;
     refuses = record {
       begun = (spelling_apat (a.Con g.Unit), a.Con g.Unit, con_good g.Unit refl, refl);
       never = λ s other after same good quiet e.
-        let q = of_layer a.Lazy is_tilde lazy_only other after (ap (begins is_tilde) (sym e) ∙ begins_same is_tilde ts s same ∙ ap (begins is_tilde) at) in
-        over (within_less limit 1 _ (omega arith) (subst (Within limit) (ap depth_of_apat q.1 ∙ lazy_deep q.0) good.1));
+          let q = of_layer a.Lazy is_tilde lazy_only other after (ap (begins is_tilde) (sym e) ∙ begins_same is_tilde ts s same ∙ ap (begins is_tilde) at) in
+          over (within_less limit 1 _ (omega arith) (subst (Within limit) (ap depth_of_apat q.1 ∙ lazy_deep q.0) good.1));
     };
   }
 
@@ -168,8 +172,10 @@ module _ (limit : Option ℕ) where
   wild_variant : Variant (apat_form limit) (leaf (λ (u : Unit {0}). t.Underscore)) (λ u. a.Wild) is_underscore
   wild_variant = record {
     tokens = λ u. ap spelling_apat (sym a.rolls-Wild) ∙ apat_spelled APatTree-F.Wild;
-    good = λ u h. (ap is_apat (sym a.rolls-Wild) ∙ apat_is APatTree-F.Wild,
-      subst (Within limit) (sym (ap depth_of_apat (sym a.rolls-Wild) ∙ apat_deep APatTree-F.Wild)) (within_zero limit));
+    good = λ u h. (
+      ap is_apat (sym a.rolls-Wild) ∙ apat_is APatTree-F.Wild,
+      subst (Within limit) (sym (ap depth_of_apat (sym a.rolls-Wild) ∙ apat_deep APatTree-F.Wild)) (within_zero limit),
+    );
     good_back = λ u h. tt;
     extends = λ u k e. refl;
     starts = λ u. refl;
@@ -194,8 +200,10 @@ module _ (limit : Option ℕ) where
   literal_variant : Variant (apat_form limit) (leaf literal_token) a.Literal is_literal
   literal_variant = record {
     tokens = λ x. ap spelling_apat (sym (a.rolls-Literal x)) ∙ apat_spelled (APatTree-F.Literal x);
-    good = λ x h. (ap is_apat (sym (a.rolls-Literal x)) ∙ apat_is (APatTree-F.Literal x),
-      subst (Within limit) (sym (ap depth_of_apat (sym (a.rolls-Literal x)) ∙ apat_deep (APatTree-F.Literal x))) (within_zero limit));
+    good = λ x h. (
+      ap is_apat (sym (a.rolls-Literal x)) ∙ apat_is (APatTree-F.Literal x),
+      subst (Within limit) (sym (ap depth_of_apat (sym (a.rolls-Literal x)) ∙ apat_deep (APatTree-F.Literal x))) (within_zero limit),
+    );
     good_back = λ x h. tt;
     extends = λ x k e. refl;
     starts = literal_is;
@@ -225,8 +233,10 @@ module _ (limit : Option ℕ) where
 
   integer_inj : (n m : List ℕ) → t.Integer n ≡ t.Integer m → m ≡ n
   integer_inj n m e = cc
+
   char_inj : (n m : List ℕ) → t.Char n ≡ t.Char m → m ≡ n
   char_inj n m e = cc
+
   text_inj : (n m : List ℕ) → t.Text n ≡ t.Text m → m ≡ n
   text_inj n m e = cc
 
@@ -248,7 +258,10 @@ module _ (limit : Option ℕ) where
 
   pub none_here : (ts : Ts) → begins starts_apat ts ≡ false → Rejects (apat_form limit) ts (length ts)
   none_here ts ends = record {
-    before = []; bad = ts; split = refl; left_is = refl;
+    before = [];
+    bad = ts;
+    split = refl;
+    left_is = refl;
     refuses = none_refused (apat_form limit) starts_apat (a.Con g.Unit) (con_good g.Unit refl) (λ x good. apat_starts x) ts ends;
   }
 
@@ -261,7 +274,7 @@ module _ (limit : Option ℕ) where
     reads = record {
       good = con_good c is;
       only = λ s other after same good quiet e.
-        decide s other after same (paren_cases other (body ++ s) after good.0 (ap (λ l. l ++ s) (sym (con_spelled c ∙ name)) ∙ e));
+          decide s other after same (paren_cases other (body ++ s) after good.0 (ap (λ l. l ++ s) (sym (con_spelled c ∙ name)) ∙ e));
     };
     measured_is = sym (con_deep c);
     room = omega (arith, ap length at, length-append body rest);
@@ -364,10 +377,10 @@ module _ (limit : Option ℕ) where
   tuple_fails ts e comma r =
       fails_after (apat_form limit) tuple_name_form (t.LeftParen ∷ []) (t.LeftParen ∷ ts) ts e refl
       (λ before bad split q.
-        paren_refused before bad q.begun.0 (a.Con (g.Tuple q.begun.1)) (con_good (g.Tuple q.begun.1) (tuple_gcon q.begun.1 q.begun.2))
-        (con_spelled (g.Tuple q.begun.1) ∙ ap (λ xs. t.LeftParen ∷ xs) (sym q.begun.3))
-        (λ s other after same good c. tuple_only before bad q s other after same
-          (begins_same is_comma _ _ (same_start_append before bad s same) ∙ ap (begins is_comma) (sym split) ∙ comma) c)) r
+      paren_refused before bad q.begun.0 (a.Con (g.Tuple q.begun.1)) (con_good (g.Tuple q.begun.1) (tuple_gcon q.begun.1 q.begun.2))
+      (con_spelled (g.Tuple q.begun.1) ∙ ap (λ xs. t.LeftParen ∷ xs) (sym q.begun.3))
+      (λ s other after same good c. tuple_only before bad q s other after same
+      (begins_same is_comma _ _ (same_start_append before bad s same) ∙ ap (begins is_comma) (sym split) ∙ comma) c)) r
 
   -- a symbol and no `)`
   shut_missed : (s : Ts) (rest bad : Ts) → SameStart bad s → begins is_right_paren bad ≡ false → s ≡ t.RightParen ∷ rest → ⊥
@@ -387,7 +400,10 @@ module _ (limit : Option ℕ) where
   pub sym_none : (m : List ℕ) (ts next : Ts) → ts ≡ t.ConSym m ∷ next → begins is_right_paren next ≡ false →
       Rejects (apat_form limit) (t.LeftParen ∷ ts) (length next)
   sym_none m ts next at ends = record {
-    before = t.LeftParen ∷ t.ConSym m ∷ []; bad = next; split = ap (λ l. t.LeftParen ∷ l) at; left_is = refl;
+    before = t.LeftParen ∷ t.ConSym m ∷ [];
+    bad = next;
+    split = ap (λ l. t.LeftParen ∷ l) at;
+    left_is = refl;
     refuses = paren_refused (t.ConSym m ∷ []) next (t.RightParen ∷ []) (a.Con (g.Sym m)) (con_good (g.Sym m) refl) (con_spelled (g.Sym m))
         (λ s other after same good c. sym_missed m next s other after same ends c);
   }
@@ -405,7 +421,10 @@ module _ (limit : Option ℕ) where
 
   pub colon_none : (ts next : Ts) → ts ≡ t.Colon ∷ next → begins is_right_paren next ≡ false → Rejects (apat_form limit) (t.LeftParen ∷ ts) (length next)
   colon_none ts next at ends = record {
-    before = t.LeftParen ∷ t.Colon ∷ []; bad = next; split = ap (λ l. t.LeftParen ∷ l) at; left_is = refl;
+    before = t.LeftParen ∷ t.Colon ∷ [];
+    bad = next;
+    split = ap (λ l. t.LeftParen ∷ l) at;
+    left_is = refl;
     refuses = paren_refused (t.Colon ∷ []) next (t.RightParen ∷ []) (a.Con g.Colon) (con_good g.Colon refl) (con_spelled g.Colon)
         (λ s other after same good c. colon_missed next s other after same ends c);
   }
@@ -439,7 +458,10 @@ module _ (limit : Option ℕ) where
   pub op_none : (m : List ℕ) (ts next : Ts) → ts ≡ t.VarSym m ∷ next → begins is_right_paren next ≡ false → starts_pat ts ≡ false →
       Rejects (apat_form limit) (t.LeftParen ∷ ts) (length next)
   op_none m ts next at ends missed = record {
-    before = t.LeftParen ∷ t.VarSym m ∷ []; bad = next; split = ap (λ l. t.LeftParen ∷ l) at; left_is = refl;
+    before = t.LeftParen ∷ t.VarSym m ∷ [];
+    bad = next;
+    split = ap (λ l. t.LeftParen ∷ l) at;
+    left_is = refl;
     refuses = paren_refused (t.VarSym m ∷ []) next (t.RightParen ∷ []) (a.Var (v.Sym m)) (var_good (v.Sym m)) (var_spelled (v.Sym m))
         (λ s other after same good c. op_missed m next s other after same ends (ap starts_pat (sym at) ∙ missed) c);
   }
@@ -466,7 +488,10 @@ module _ (limit : Option ℕ) where
   pub minus_over : (m : List ℕ) (ts next : Ts) → ts ≡ t.VarSym m ∷ next → starts_pat ts ≡ true → (Within limit 1 → ⊥) →
       Rejects (apat_form limit) (t.LeftParen ∷ ts) (length next)
   minus_over m ts next at starts over = record {
-    before = t.LeftParen ∷ t.VarSym m ∷ []; bad = next; split = ap (λ l. t.LeftParen ∷ l) at; left_is = refl;
+    before = t.LeftParen ∷ t.VarSym m ∷ [];
+    bad = next;
+    split = ap (λ l. t.LeftParen ∷ l) at;
+    left_is = refl;
     refuses = paren_refused (t.VarSym m ∷ []) next (t.RightParen ∷ []) (a.Var (v.Sym m)) (var_good (v.Sym m)) (var_spelled (v.Sym m))
         (λ s other after same good c. minus_deep m next s other after same (minus_behind m next (ap starts_pat (sym at) ∙ starts)) over good c);
   }
@@ -482,7 +507,10 @@ module _ (limit : Option ℕ) where
 
   pub paren_over : (ts : Ts) → begins opens_name ts ≡ false → (Within limit 1 → ⊥) → Rejects (apat_form limit) (t.LeftParen ∷ ts) (length ts)
   paren_over ts ends over = record {
-    before = t.LeftParen ∷ []; bad = ts; split = refl; left_is = refl;
+    before = t.LeftParen ∷ [];
+    bad = ts;
+    split = refl;
+    left_is = refl;
     refuses = paren_refused [] ts (t.RightParen ∷ []) (a.Con g.Unit) (con_good g.Unit refl) (con_spelled g.Unit)
         (λ s other after same good c. deep s other after good (name_opens s (begins_same opens_name ts s same ∙ ends)) c);
   }
@@ -499,7 +527,10 @@ module _ (limit : Option ℕ) where
   -- `(` and the end
   pub paren_end : (ts : Ts) → length ts ≡ 0 → Rejects (apat_form limit) (t.LeftParen ∷ ts) 0
   paren_end [] none = record {
-    before = t.LeftParen ∷ []; bad = []; split = refl; left_is = refl;
+    before = t.LeftParen ∷ [];
+    bad = [];
+    split = refl;
+    left_is = refl;
     refuses = paren_refused [] [] (t.RightParen ∷ []) (a.Con g.Unit) (con_good g.Unit refl) (con_spelled g.Unit)
         (λ s other after same good c. at_end s other after same c);
   }

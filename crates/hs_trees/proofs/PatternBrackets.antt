@@ -1,28 +1,28 @@
 -- How patterns in brackets are read or refused.
-use Rattle.std.proofs.Common.{◌≡◌, ℕ, zero, suc, ◌+◌, ◌<◌, ◌≤◌, Bool, true, false, List, [], ◌∷◌, ◌++◌, length, refl, sym, ap, ◌∙◌, subst, append_assoc, true≢false, arith, length-append, inl, inr, ◌⊎◌}
-use Rattle.std.specs.Prelude.{flat_map, map, max, replicate, not, ◌&&◌, ◌||◌, nat_lt, Option, Some, None}
+use Rattle.std.proofs.Common.{◌≡◌, ℕ, ◌+◌, ◌<◌, Bool, true, false, List, [], ◌∷◌, ◌++◌, length, refl, sym, ap, ◌∙◌, subst, append_assoc, true≢false, arith, inl, inr, ◌⊎◌}
+use Rattle.std.specs.Prelude.{max, not, ◌&&◌, ◌||◌, nat_lt, Option, Some, None}
 use Rattle.std.specs.Str.{bytes_eq}
 use Rattle.std.proofs.lemmas.Slice.Eq.{bytes_eq-Decides}
 use Rattle.std.proofs.lemmas.List.{append-nil}
 use Rattle.std.proofs.lemmas.Bool.Decides.{nat_tests}
 use Rattle.hs_trees.specs.Reading.{Form, SameStart, begins, Reads, Refuses}
-use Rattle.hs_trees.specs.Answers.{Within, lowered, deepest, Accepts, Rejects, Fails}
+use Rattle.hs_trees.specs.Answers.{Within, lowered, Accepts, Rejects, Fails}
 use Rattle.hs_trees.specs.Terminals.{is_right_paren, is_right_bracket, minus}
-use Rattle.hs_trees.specs.Patterns.{Ts, gcon_tokens, spelling_apat, spelling_pat, spelling_lpat, is_apat, is_pat, is_lpat, depth_of_apat, depth_of_pat, depth_of_lpat, starts_apat, starts_pat, opens_name, opens_pat, apat_form, pat_form, lpat_form, Pats, pats_form, spelling_pats, depth_of_pats}
+use Rattle.hs_trees.specs.Patterns.{Ts, spelling_apat, spelling_pat, spelling_lpat, is_pat, is_lpat, depth_of_apat, depth_of_pat, depth_of_lpat, starts_pat, opens_name, opens_pat, apat_form, Pats, pats_form, spelling_pats, depth_of_pats}
 use Rattle.hs_trees.specs.declared.terminal.Terminal.{Terminal}
 use Rattle.hs_trees.specs.declared.terminal.Terminal.TheVariants as t
 use Rattle.hs_trees.specs.declared.fault.Fault.{Fault}
 use Rattle.hs_trees.specs.declared.patterns.GConTree.TheVariants as g
 use Rattle.hs_trees.specs.declared.patterns.PatTree.{PatTree}
-use Rattle.hs_trees.specs.declared.patterns.LPatTree.{LPatTree, LPatTree-F, roll-LPatTree}
+use Rattle.hs_trees.specs.declared.patterns.LPatTree.{LPatTree-F}
 use Rattle.hs_trees.specs.declared.patterns.LPatTree.TheVariants as lp
-use Rattle.hs_trees.specs.declared.patterns.APatTree.{APatTree, APatTree-F, roll-APatTree}
+use Rattle.hs_trees.specs.declared.patterns.APatTree.{APatTree}
 use Rattle.hs_trees.specs.declared.patterns.APatTree.TheVariants as a
-use Rattle.hs_trees.proofs.Forms.{begins_append, begins_same, same_start_append, closed, reads_closed, refuses_closed}
+use Rattle.hs_trees.proofs.Forms.{begins_same, same_start_append, closed, reads_closed, refuses_closed}
 use Rattle.hs_trees.proofs.Limits.{within_less, within_lowered, within_raised, within_zero, and_left, and_right, and_both}
 use Rattle.hs_trees.proofs.Chains.{fails_after}
 use Rattle.hs_trees.proofs.Narrow.{closing_missed, refuses_later}
-use Rattle.hs_trees.proofs.PatternLayers.{PLayer, pat_spelled, pat_is, pat_deep, lpat_spelled, lpat_is, lpat_deep}
+use Rattle.hs_trees.proofs.PatternLayers.{pat_spelled, pat_is, pat_deep, lpat_spelled, lpat_is, lpat_deep}
 use Rattle.hs_trees.proofs.PatternCases.{are_pats, parts_spelled, parts_deep, parts_are, list_spelled, list_deep, list_are, con_spelled, con_deep, is_name, pat_no_name, pats_start, ParenCase, of_unit, of_tuple, of_con, of_colon, of_var, of_as, of_parts, paren_cases, BracketCase, of_nil, of_list, bracket_cases}
 use Rattle.hs_trees.proofs.PatternChains.{make_pat}
 use Rattle.hs_trees.proofs.PatternAtoms.{con_good, paren_refused, name_opens, name_clash, comma_name, clash, no_extends}
@@ -82,17 +82,20 @@ module _ (limit : Option ℕ) where
 
   parts_good : (p : Pats) → Within limit 1 → round.Good p → (apat_form limit).Good (a.Parts p.0 p.1)
   parts_good p one good =
-      let few = good.0 in
-      (parts_are p ∙ and_both _ _ (grind (arith, nat_tests)) good.1,
-        subst (Within limit) (sym (parts_deep p)) (within_raised limit (depth_of_pats p) 1 one good.2))
+      let few = good.0 in (
+        parts_are p ∙ and_both _ _ (grind (arith, nat_tests)) good.1,
+        subst (Within limit) (sym (parts_deep p)) (within_raised limit (depth_of_pats p) 1 one good.2),
+      )
 
   good_parts : (p : Pats) (other : APatTree) → other ≡ a.Parts p.0 p.1 → nat_lt (length p.1) 15 && are_pats p ≡ true → Within limit (depth_of_apat other) →
       round.Good p
   good_parts p other eq are within =
       let few = and_left (nat_lt (length p.1) 15) _ are in
-      let lt : length p.1 < 15 = grind (arith, nat_tests) in
-      (omega arith, and_right (nat_lt (length p.1) 15) _ are,
-        within_lowered limit (depth_of_pats p) 1 (subst (Within limit) (ap depth_of_apat eq ∙ parts_deep p) within))
+      let lt : length p.1 < 15 = grind (arith, nat_tests) in (
+        omega arith,
+        and_right (nat_lt (length p.1) 15) _ are,
+        within_lowered limit (depth_of_pats p) 1 (subst (Within limit) (ap depth_of_apat eq ∙ parts_deep p) within),
+      )
 
   -- no name in brackets goes on where patterns are refused
   inside_no_name : (ts before bad s : Ts) → opens_pat ts ≡ true → ts ≡ before ++ bad → Refuses round before bad → SameStart bad s →
@@ -104,11 +107,13 @@ module _ (limit : Option ℕ) where
           name_opens limit (before ++ s) (begins_same opens_name (before ++ bad) (before ++ s) (same_start_append before bad s same) ∙ ap (begins opens_name) (sym split) ∙ not_)
       decide (inl yes_) =
           let shape = minus_shape ts yes_ (opens_starts ts opens yes_) in
-          let good : round.Good (negative shape.0) =
-              (omega arith, and_both (is_pat (make_pat (lp.Negative shape.0) [])) true (negative_is shape.0) refl,
-                subst (Within (lowered limit 1)) (sym (negative_deep shape.0)) (within_zero (lowered limit 1))) in
+          let good : round.Good (negative shape.0) = (
+            omega arith,
+            and_both (is_pat (make_pat (lp.Negative shape.0) [])) true (negative_is shape.0) refl,
+            subst (Within (lowered limit 1)) (sym (negative_deep shape.0)) (within_zero (lowered limit 1)),
+          ) in
           let far = refuses_later round before bad (t.VarSym minus ∷ []) (t.Integer shape.0) shape.1 (t.RightParen ∷ []) (negative shape.0) r
-              (sym split ∙ shape.2) good (ap (λ l. l ++ t.RightParen ∷ []) (negative_spelled shape.0)) in
+          (sym split ∙ shape.2) good (ap (λ l. l ++ t.RightParen ∷ []) (negative_spelled shape.0)) in
           ap (λ l. is_name (l ++ s)) far.1
 
   parts_only : (before bad : Ts) → Refuses round before bad → (s : Ts) (other : APatTree) (after : Ts) → SameStart bad s → (apat_form limit).Good other →
@@ -133,7 +138,7 @@ module _ (limit : Option ℕ) where
   inside_fails ts b e one same opens r =
       fails_after (apat_form limit) (pats_form (Some 14) (lowered limit 1)) (t.LeftParen ∷ []) (t.LeftParen ∷ ts) ts e refl
       (λ before bad split q. inside_refused ts before bad one opens split
-        (refuses_closed (pats_form (Some 14) (lowered limit 1)) t.RightParen (λ x. refl) before bad q))
+      (refuses_closed (pats_form (Some 14) (lowered limit 1)) t.RightParen (λ x. refl) before bad q))
       (subst (λ l. Fails (pats_form (Some 14) l) ts e) same r)
 
   parts_decide : (p : Pats) (rest : Ts) → Reads round p rest → (s : Ts) (other : APatTree) (after : Ts) → SameStart rest s → (apat_form limit).Good other →
@@ -153,8 +158,8 @@ module _ (limit : Option ℕ) where
   parts_read p rest one r = record {
     good = parts_good p one r.good;
     only = λ s other after same good quiet e.
-      parts_decide p rest r s other after same good
-      (paren_cases other ((spelling_pats p ++ t.RightParen ∷ []) ++ s) after good.0 (ap (λ l. l ++ s) (sym (parts_spelled p)) ∙ e));
+        parts_decide p rest r s other after same good
+        (paren_cases other ((spelling_pats p ++ t.RightParen ∷ []) ++ s) after good.0 (ap (λ l. l ++ s) (sym (parts_spelled p)) ∙ e));
   }
 
   pub inside_ok : (ts : Ts) (b : Option ℕ) (x : PatTree) (xs : List PatTree) (after rest : Ts) (d : ℕ) → Within limit 1 → b ≡ lowered limit 1 →
@@ -165,9 +170,9 @@ module _ (limit : Option ℕ) where
       let acc' = subst (λ l. Accepts (pats_form (Some 14) l) depth_of_pats ts p after d) same acc in
       record {
         spelled = ap (λ l. t.LeftParen ∷ l) (acc'.spelled ∙ ap (λ l. spelling_pats p ++ l) at
-          ∙ sym (append_assoc (spelling_pats p) (t.RightParen ∷ []) rest)) ∙ ap (λ l. l ++ rest) (sym (parts_spelled p));
+            ∙ sym (append_assoc (spelling_pats p) (t.RightParen ∷ []) rest)) ∙ ap (λ l. l ++ rest) (sym (parts_spelled p));
         reads = parts_read p rest one (reads_closed (pats_form (Some 14) (lowered limit 1)) t.RightParen (λ x. refl) p rest
-          (subst (λ l. Reads (pats_form (Some 14) (lowered limit 1)) p l) at acc'.reads));
+            (subst (λ l. Reads (pats_form (Some 14) (lowered limit 1)) p l) at acc'.reads));
         measured_is = ap (λ n. n + 1) acc'.measured_is ∙ sym (parts_deep p);
         room = omega (arith, acc'.room, ap length at);
       }
@@ -184,7 +189,7 @@ module _ (limit : Option ℕ) where
         split = ap (λ l. t.LeftParen ∷ l) acc'.spelled;
         left_is = refl;
         refuses = inside_refused ts (spelling_pats p) after one opens acc'.spelled
-          (closing_missed (pats_form (Some 14) (lowered limit 1)) t.RightParen (λ x. refl) is_right_paren refl p after acc'.reads missed);
+            (closing_missed (pats_form (Some 14) (lowered limit 1)) t.RightParen (λ x. refl) is_right_paren refl p after acc'.reads missed);
       }
 
   -- square brackets
@@ -206,7 +211,7 @@ module _ (limit : Option ℕ) where
     reads = record {
       good = con_good limit g.List refl;
       only = λ s other after same good quiet e.
-        nil_decide s other after (bracket_cases other (t.RightBracket ∷ s) after good.0 (ap (λ l. l ++ s) (sym (con_spelled g.List)) ∙ e));
+          nil_decide s other after (bracket_cases other (t.RightBracket ∷ s) after good.0 (ap (λ l. l ++ s) (sym (con_spelled g.List)) ∙ e));
     };
     measured_is = sym (con_deep g.List);
     room = omega (arith, ap length at);
@@ -228,7 +233,10 @@ module _ (limit : Option ℕ) where
 
   pub bracket_over : (ts : Ts) → (Within limit 1 → ⊥) → begins is_right_bracket ts ≡ false → Rejects (apat_form limit) (t.LeftBracket ∷ ts) (length ts)
   bracket_over ts over ends = record {
-    before = t.LeftBracket ∷ []; bad = ts; split = refl; left_is = refl;
+    before = t.LeftBracket ∷ [];
+    bad = ts;
+    split = refl;
+    left_is = refl;
     refuses = bracket_refused [] ts (t.RightBracket ∷ []) (a.Con g.List) (con_good limit g.List refl) (con_spelled g.List)
         (λ s other after same good c. bracket_deep s other after over good (begins_same is_right_bracket ts s same ∙ ends) c);
   }
@@ -244,14 +252,14 @@ module _ (limit : Option ℕ) where
       bracket_refused before bad r.begun.0 (a.List r.begun.1.0 r.begun.1.1) (list_good r.begun.1 one r.begun.2)
       (list_spelled r.begun.1 ∙ ap (λ xs. t.LeftBracket ∷ xs) (sym r.begun.3))
       (λ s other after same good c.
-        list_only before bad r s other after same good (begins_same is_right_bracket _ _ (same_start_append before bad s same) ∙ ends) c)
+      list_only before bad r s other after same good (begins_same is_right_bracket _ _ (same_start_append before bad s same) ∙ ends) c)
 
   pub list_fails : (ts : Ts) (b : Option ℕ) (e : Fault) → Within limit 1 → b ≡ lowered limit 1 → begins is_right_bracket ts ≡ false →
       Fails (pats_form None b) ts e → Fails (apat_form limit) (t.LeftBracket ∷ ts) e
   list_fails ts b e one same ends r =
       fails_after (apat_form limit) (pats_form None (lowered limit 1)) (t.LeftBracket ∷ []) (t.LeftBracket ∷ ts) ts e refl
       (λ before bad split q. list_refused before bad one (ap (begins is_right_bracket) (sym split) ∙ ends)
-        (refuses_closed (pats_form None (lowered limit 1)) t.RightBracket (λ x. refl) before bad q))
+      (refuses_closed (pats_form None (lowered limit 1)) t.RightBracket (λ x. refl) before bad q))
       (subst (λ l. Fails (pats_form None l) ts e) same r)
 
   list_decide : (p : Pats) (rest : Ts) → Reads square p rest → (s : Ts) (other : APatTree) (after : Ts) → SameStart rest s → (apat_form limit).Good other →
@@ -265,8 +273,8 @@ module _ (limit : Option ℕ) where
   list_read p rest one r = record {
     good = list_good p one r.good;
     only = λ s other after same good quiet e.
-      list_decide p rest r s other after same good
-      (bracket_cases other ((spelling_pats p ++ t.RightBracket ∷ []) ++ s) after good.0 (ap (λ l. l ++ s) (sym (list_spelled p)) ∙ e));
+        list_decide p rest r s other after same good
+        (bracket_cases other ((spelling_pats p ++ t.RightBracket ∷ []) ++ s) after good.0 (ap (λ l. l ++ s) (sym (list_spelled p)) ∙ e));
   }
 
   pub list_ok : (ts : Ts) (b : Option ℕ) (x : PatTree) (xs : List PatTree) (after rest : Ts) (d : ℕ) → Within limit 1 → b ≡ lowered limit 1 →
@@ -277,9 +285,9 @@ module _ (limit : Option ℕ) where
       let acc' = subst (λ l. Accepts (pats_form None l) depth_of_pats ts p after d) same acc in
       record {
         spelled = ap (λ l. t.LeftBracket ∷ l) (acc'.spelled ∙ ap (λ l. spelling_pats p ++ l) at
-          ∙ sym (append_assoc (spelling_pats p) (t.RightBracket ∷ []) rest)) ∙ ap (λ l. l ++ rest) (sym (list_spelled p));
+            ∙ sym (append_assoc (spelling_pats p) (t.RightBracket ∷ []) rest)) ∙ ap (λ l. l ++ rest) (sym (list_spelled p));
         reads = list_read p rest one (reads_closed (pats_form None (lowered limit 1)) t.RightBracket (λ x. refl) p rest
-          (subst (λ l. Reads (pats_form None (lowered limit 1)) p l) at acc'.reads));
+            (subst (λ l. Reads (pats_form None (lowered limit 1)) p l) at acc'.reads));
         measured_is = ap (λ n. n + 1) acc'.measured_is ∙ sym (list_deep p);
         room = omega (arith, acc'.room, ap length at);
       }
@@ -296,5 +304,5 @@ module _ (limit : Option ℕ) where
         split = ap (λ l. t.LeftBracket ∷ l) acc'.spelled;
         left_is = refl;
         refuses = list_refused (spelling_pats p) after one (ap (begins is_right_bracket) (sym acc'.spelled) ∙ ends)
-          (closing_missed (pats_form None (lowered limit 1)) t.RightBracket (λ x. refl) is_right_bracket refl p after acc'.reads missed);
+            (closing_missed (pats_form None (lowered limit 1)) t.RightBracket (λ x. refl) is_right_bracket refl p after acc'.reads missed);
       }

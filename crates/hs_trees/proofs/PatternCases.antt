@@ -1,12 +1,12 @@
 -- What an `apat` is by its first tokens.
-use Rattle.std.proofs.Common.{◌≡◌, ℕ, zero, suc, ◌+◌, ◌<◌, ◌≤◌, Bool, true, false, List, [], ◌∷◌, ◌++◌, length, refl, sym, ap, ◌∙◌, subst, append_assoc, true≢false, arith}
-use Rattle.std.specs.Prelude.{flat_map, map, max, replicate, ◌&&◌, nat_lt, Option, Some, None}
+use Rattle.std.proofs.Common.{◌≡◌, ℕ, zero, suc, ◌+◌, ◌<◌, Bool, true, false, List, [], ◌∷◌, ◌++◌, length, refl, sym, ap, ◌∙◌, subst, true≢false, arith}
+use Rattle.std.specs.Prelude.{map, replicate, ◌&&◌, nat_lt}
 use Rattle.std.proofs.lemmas.List.Folds.{flat_map-map}
 use Rattle.std.proofs.lemmas.Bool.Decides.{nat_tests}
-use Rattle.hs_trees.specs.Reading.{Form, begins}
-use Rattle.hs_trees.specs.Answers.{Within, lowered, deepest, all_of}
-use Rattle.hs_trees.specs.Terminals.{is_con, is_comma}
-use Rattle.hs_trees.specs.Patterns.{Ts, literal_token, var_tokens, gcon_tokens, spelling_apat, spelling_lpat, spelling_op, spelling_pat, is_gcon, is_apat, is_pat, depth_of_apat, depth_of_pat, Pats, spelling_pats, depth_of_pats, starts_apat, starts_pat, apat_form}
+use Rattle.hs_trees.specs.Reading.{begins}
+use Rattle.hs_trees.specs.Answers.{all_of}
+use Rattle.hs_trees.specs.Terminals.{is_con}
+use Rattle.hs_trees.specs.Patterns.{Ts, var_tokens, gcon_tokens, spelling_apat, spelling_pat, is_gcon, is_apat, is_pat, depth_of_apat, Pats, spelling_pats, depth_of_pats, starts_pat}
 use Rattle.hs_trees.specs.declared.terminal.Terminal.{Terminal}
 use Rattle.hs_trees.specs.declared.terminal.Terminal.TheVariants as t
 use Rattle.hs_trees.specs.declared.patterns.LiteralTree.{LiteralTree}
@@ -15,13 +15,11 @@ use Rattle.hs_trees.specs.declared.patterns.VarTree.{VarTree}
 use Rattle.hs_trees.specs.declared.patterns.VarTree.TheVariants as v
 use Rattle.hs_trees.specs.declared.patterns.GConTree.{GConTree}
 use Rattle.hs_trees.specs.declared.patterns.GConTree.TheVariants as g
-use Rattle.hs_trees.specs.declared.patterns.PatTree.{PatTree}
 use Rattle.hs_trees.specs.declared.patterns.APatTree.{APatTree, APatTree-F, out-APatTree, roll-APatTree, roll-out-APatTree}
 use Rattle.hs_trees.specs.declared.patterns.APatTree.TheVariants as a
-use Rattle.hs_trees.proofs.Forms.{begins_append}
 use Rattle.hs_trees.proofs.Limits.{and_left, and_right}
 use Rattle.hs_trees.proofs.TypeLayers.{length_of_map}
-use Rattle.hs_trees.proofs.PatternLayers.{ALayer, apat_layer_tokens, apat_spelled, apat_deep, apat_is, apat_starts, pat_starts, starts_pat_append}
+use Rattle.hs_trees.proofs.PatternLayers.{ALayer, apat_layer_tokens, apat_spelled, apat_deep, apat_is, pat_starts, starts_pat_append}
 
 -- brackets, lists, bound names and lazy patterns, from their parts
 abbrev pub are_pats : Pats → Bool
@@ -151,9 +149,9 @@ pub data ParenCase (other : APatTree) (s after : Ts) : Type 0 where
   of_colon : other ≡ a.Con g.Colon → s ≡ t.Colon ∷ t.RightParen ∷ after → ParenCase other s after
   of_var : (n : List ℕ) → other ≡ a.Var (v.Sym n) → s ≡ t.VarSym n ∷ t.RightParen ∷ after → ParenCase other s after
   of_as : (n : List ℕ) (x : APatTree) → other ≡ a.As (v.Sym n) x → is_apat x ≡ true → s ≡ t.VarSym n ∷ t.RightParen ∷ t.At ∷ (spelling_apat x ++ after) →
-    ParenCase other s after
+      ParenCase other s after
   of_parts : (p : Pats) → other ≡ a.Parts p.0 p.1 → nat_lt (length p.1) 15 && are_pats p ≡ true → s ≡ (spelling_pats p ++ t.RightParen ∷ []) ++ after →
-    ParenCase other s after
+      ParenCase other s after
 
 paren_layer : (x : ALayer) (s after : Ts) → is_apat (roll-APatTree x) ≡ true → t.LeftParen ∷ s ≡ apat_layer_tokens x ++ after →
     ParenCase (roll-APatTree x) s after
@@ -164,7 +162,7 @@ paren_layer (APatTree-F.As (v.Sym n) x) s after good e = of_as n x (a.rolls-As (
 paren_layer APatTree-F.Wild s after good e = absurd (true≢false (ap (begins is_left_paren) e))
 paren_layer (APatTree-F.Con g.Unit) s after good e = of_unit (a.rolls-Con g.Unit) (tail_is _ _ _ e)
 paren_layer (APatTree-F.Con g.List) s after good e = absurd (true≢false (ap (begins is_left_paren) e))
-paren_layer (APatTree-F.Con (g.Tuple n)) s after good e = 
+paren_layer (APatTree-F.Con (g.Tuple n)) s after good e =
     let both = sym (apat_is (APatTree-F.Con (g.Tuple n))) ∙ good in
     of_tuple n (a.rolls-Con (g.Tuple n)) (let h = and_left (nat_lt 0 n) _ both in grind (arith, nat_tests))
     (let h = and_right (nat_lt 0 n) _ both in grind (arith, nat_tests)) (tail_is _ _ _ e)
@@ -174,10 +172,10 @@ paren_layer (APatTree-F.Con g.Colon) s after good e = of_colon (a.rolls-Con g.Co
 paren_layer (APatTree-F.Literal (l.Integer n)) s after good e = absurd (true≢false (ap (begins is_left_paren) e))
 paren_layer (APatTree-F.Literal (l.Char n)) s after good e = absurd (true≢false (ap (begins is_left_paren) e))
 paren_layer (APatTree-F.Literal (l.Text n)) s after good e = absurd (true≢false (ap (begins is_left_paren) e))
-paren_layer (APatTree-F.Parts x y) s after good e = 
+paren_layer (APatTree-F.Parts x y) s after good e =
     let same = a.rolls-Parts x y in
     let e' : t.LeftParen ∷ s ≡ spelling_apat (a.Parts x y) ++ after =
-        e ∙ ap (λ xs. xs ++ after) (sym (apat_spelled (APatTree-F.Parts x y))) ∙ ap (λ o. spelling_apat o ++ after) same in
+    e ∙ ap (λ xs. xs ++ after) (sym (apat_spelled (APatTree-F.Parts x y))) ∙ ap (λ o. spelling_apat o ++ after) same in
     of_parts (x, y) same (sym (parts_are (x, y)) ∙ subst (λ o. is_apat o ≡ true) same good)
     (tail_is _ _ _ (e' ∙ ap (λ xs. xs ++ after) (parts_spelled (x, y))))
 paren_layer (APatTree-F.List x y) s after good e = absurd (true≢false (ap (begins is_left_paren) e))
@@ -187,7 +185,7 @@ pub paren_cases : (other : APatTree) (s after : Ts) → is_apat other ≡ true �
 paren_cases other s after good e =
     subst (λ o. ParenCase o s after) (roll-out-APatTree other)
     (paren_layer (out-APatTree other) s after (ap is_apat (roll-out-APatTree other) ∙ good)
-      (e ∙ ap (λ o. spelling_apat o ++ after) (sym (roll-out-APatTree other)) ∙ ap (λ xs. xs ++ after) (apat_spelled (out-APatTree other))))
+    (e ∙ ap (λ o. spelling_apat o ++ after) (sym (roll-out-APatTree other)) ∙ ap (λ xs. xs ++ after) (apat_spelled (out-APatTree other))))
 
 pub data BracketCase (other : APatTree) (s after : Ts) : Type 0 where
   of_nil : other ≡ a.Con g.List → s ≡ t.RightBracket ∷ after → BracketCase other s after
@@ -210,10 +208,10 @@ bracket_layer (APatTree-F.Literal (l.Integer n)) s after good e = absurd (true�
 bracket_layer (APatTree-F.Literal (l.Char n)) s after good e = absurd (true≢false (ap (begins is_left_bracket) e))
 bracket_layer (APatTree-F.Literal (l.Text n)) s after good e = absurd (true≢false (ap (begins is_left_bracket) e))
 bracket_layer (APatTree-F.Parts x y) s after good e = absurd (true≢false (ap (begins is_left_bracket) e))
-bracket_layer (APatTree-F.List x y) s after good e = 
+bracket_layer (APatTree-F.List x y) s after good e =
     let same = a.rolls-List x y in
     let e' : t.LeftBracket ∷ s ≡ spelling_apat (a.List x y) ++ after =
-        e ∙ ap (λ xs. xs ++ after) (sym (apat_spelled (APatTree-F.List x y))) ∙ ap (λ o. spelling_apat o ++ after) same in
+    e ∙ ap (λ xs. xs ++ after) (sym (apat_spelled (APatTree-F.List x y))) ∙ ap (λ o. spelling_apat o ++ after) same in
     of_list (x, y) same (sym (list_are (x, y)) ∙ subst (λ o. is_apat o ≡ true) same good)
     (tail_is _ _ _ (e' ∙ ap (λ xs. xs ++ after) (list_spelled (x, y))))
 bracket_layer (APatTree-F.Lazy x) s after good e = absurd (true≢false (ap (begins is_left_bracket) e))
@@ -222,7 +220,7 @@ pub bracket_cases : (other : APatTree) (s after : Ts) → is_apat other ≡ true
 bracket_cases other s after good e =
     subst (λ o. BracketCase o s after) (roll-out-APatTree other)
     (bracket_layer (out-APatTree other) s after (ap is_apat (roll-out-APatTree other) ∙ good)
-      (e ∙ ap (λ o. spelling_apat o ++ after) (sym (roll-out-APatTree other)) ∙ ap (λ xs. xs ++ after) (apat_spelled (out-APatTree other))))
+    (e ∙ ap (λ o. spelling_apat o ++ after) (sym (roll-out-APatTree other)) ∙ ap (λ xs. xs ++ after) (apat_spelled (out-APatTree other))))
 
 -- an `apat` that begins with a name
 pub data VarCase (name : VarTree) (other : APatTree) (s after : Ts) : Type 0 where
@@ -233,7 +231,7 @@ id_layer : (m : List ℕ) (x : ALayer) (s after : Ts) → is_apat (roll-APatTree
     VarCase (v.Id m) (roll-APatTree x) s after
 id_layer m (APatTree-F.Var (v.Id n)) s after good e = let same : n ≡ m = cc in of_name (a.rolls-Var (v.Id n) ∙ ap (λ k. a.Var (v.Id k)) same) cc
 id_layer m (APatTree-F.Var (v.Sym n)) s after good e = absurd (true≢false (ap (begins is_var) e))
-id_layer m (APatTree-F.As (v.Id n) x) s after good e = 
+id_layer m (APatTree-F.As (v.Id n) x) s after good e =
     let same : n ≡ m = cc in
     of_bound x (a.rolls-As (v.Id n) x ∙ ap (λ k. a.As (v.Id k) x) same) (sym (as_is (v.Id n) x) ∙ ap is_apat (sym (a.rolls-As (v.Id n) x)) ∙ good) cc
 id_layer m (APatTree-F.As (v.Sym n) x) s after good e = absurd (true≢false (ap (begins is_var) e))
@@ -266,7 +264,7 @@ pub var_cases : (name : VarTree) (other : APatTree) (s after : Ts) → is_apat o
 var_cases (v.Id m) other s after good e =
     subst (λ o. VarCase (v.Id m) o s after) (roll-out-APatTree other)
     (id_layer m (out-APatTree other) s after (ap is_apat (roll-out-APatTree other) ∙ good)
-      (e ∙ ap (λ o. spelling_apat o ++ after) (sym (roll-out-APatTree other)) ∙ ap (λ xs. xs ++ after) (apat_spelled (out-APatTree other))))
+    (e ∙ ap (λ o. spelling_apat o ++ after) (sym (roll-out-APatTree other)) ∙ ap (λ xs. xs ++ after) (apat_spelled (out-APatTree other))))
 var_cases (v.Sym m) other s after good e = sym_case m other s after (paren_cases other (t.VarSym m ∷ t.RightParen ∷ s) after good e)
 
 -- productions of one token, or behind one

@@ -1,10 +1,9 @@
 -- Patterns as chains.
-use Rattle.std.proofs.Common.{◌≡◌, ℕ, zero, suc, ◌+◌, ◌<◌, ◌≤◌, Bool, true, false, List, [], ◌∷◌, ◌++◌, length, refl, sym, ap, ◌∙◌, subst, append_assoc, true≢false, arith, length-append}
-use Rattle.std.specs.Prelude.{flat_map, map, max, ◌&&◌, ◌||◌, nat_lt, Option, Some, None}
-use Rattle.hs_trees.specs.Reading.{Form, begins}
-use Rattle.hs_trees.specs.Answers.{Within, lowered, deepest, all_of}
+use Rattle.std.proofs.Common.{◌≡◌, ℕ, ◌+◌, true, false, List, [], ◌∷◌, ◌++◌, length, refl, sym, ◌∙◌, subst, true≢false, arith, length-append}
+use Rattle.std.specs.Prelude.{map, max, ◌||◌, Option}
+use Rattle.hs_trees.specs.Answers.{Within, lowered, deepest}
 use Rattle.hs_trees.specs.Terminals.{is_at, is_comma, starts_qconop}
-use Rattle.hs_trees.specs.Patterns.{Ts, starts_apat, spelling_apat, spelling_lpat, spelling_op, spelling_pat, depth_of_apat, depth_of_lpat, depth_of_op, depth_of_pat, is_apat, is_lpat, is_op, is_pat, APats, apat_form, apats_form, lpat_form, pat_form, Few, Pats, pats_form}
+use Rattle.hs_trees.specs.Patterns.{Ts, starts_apat, spelling_apat, spelling_op, spelling_pat, depth_of_apat, depth_of_lpat, depth_of_op, depth_of_pat, is_apat, is_lpat, is_op, is_pat, APats, apat_form, apats_form, lpat_form, pat_form, Few, Pats, pats_form}
 use Rattle.hs_trees.specs.declared.terminal.Terminal.{Terminal}
 use Rattle.hs_trees.specs.declared.terminal.Terminal.TheVariants as t
 use Rattle.hs_trees.specs.declared.patterns.APatTree.{APatTree}
@@ -48,22 +47,32 @@ module _ (limit : Option ℕ) where
   pub apats_more : (h : APatTree) (xs : List APatTree) (x : APatTree) → (apats_form limit).Good (h, xs) → Unit {0} → apats_item (length xs) x →
       (apats_form limit).Good (h, xs ++ x ∷ [])
   apats_more h xs x good room item =
-      let new = deep_more depth_of_apat xs x in
-      (and_both _ _ (and_left (is_apat h) _ good.0) (all_more is_apat xs x (and_right (is_apat h) _ good.0) item.0),
+      let new = deep_more depth_of_apat xs x in (
+        and_both _ _ (and_left (is_apat h) _ good.0) (all_more is_apat xs x (and_right (is_apat h) _ good.0) item.0),
         within_less limit _ (max (max (depth_of_apat h) (deepest (map depth_of_apat xs))) (depth_of_apat x) + 0) (omega arith)
-        (within_max limit _ _ 0 (within_less limit _ _ (omega arith) good.1) (within_less limit _ _ (omega arith) item.1)))
+            (within_max limit _ _ 0 (within_less limit _ _ (omega arith) good.1) (within_less limit _ _ (omega arith) item.1)),
+      )
 
   abbrev pub apats_chain : Chain Terminal APats APatTree APatTree
   apats_chain = record {
-    form = apats_form limit; head = apat_form limit; items = spelling_apat; item = apats_item; inner = λ x k. is_at k; starter = starts_apat;
-    make = λ h xs. (h, xs); head_depth = depth_of_apat; item_depth = depth_of_apat; Room = λ h xs. Unit {0};
+    form = apats_form limit;
+    head = apat_form limit;
+    items = spelling_apat;
+    item = apats_item;
+    inner = λ x k. is_at k;
+    starter = starts_apat;
+    make = λ h xs. (h, xs);
+    head_depth = depth_of_apat;
+    item_depth = depth_of_apat;
+    Room = λ h xs. Unit {0};
     laws = record {
       spelled = λ h xs. refl;
       taken = λ p. (p.0, p.1, refl);
       good_head = λ h xs good. (and_left (is_apat h) _ good.0, within_less limit _ _ (omega arith) good.1);
-      good_item = λ h xs x more good.
-        (all_here is_apat xs x more (and_right (is_apat h) _ good.0),
-          (let here = deep_here depth_of_apat xs x more in within_less limit _ _ (omega arith) good.1));
+      good_item = λ h xs x more good. (
+        all_here is_apat xs x more (and_right (is_apat h) _ good.0),
+        (let here = deep_here depth_of_apat xs x more in within_less limit _ _ (omega arith) good.1),
+      );
       starts = apat_starts;
       ends = λ h xs k e. or_left (starts_apat k) (is_at k) e;
       ends_head = λ h k e. or_right (starts_apat k) (is_at k) e;
@@ -82,9 +91,10 @@ module _ (limit : Option ℕ) where
 
   pub pat_first : (h : LPatTree) → (lpat_form limit).Good h → (pat_form limit).Good (make_pat h [])
   pat_first h good =
-      let l : PLayer = record { first = h; rest = [] } in
-      (pat_is l ∙ and_both (is_lpat h) true good.0 refl,
-        subst (Within limit) (sym (pat_deep l)) (within_less limit _ (depth_of_lpat h) (omega arith) good.1))
+      let l : PLayer = record { first = h; rest = [] } in (
+        pat_is l ∙ and_both (is_lpat h) true good.0 refl,
+        subst (Within limit) (sym (pat_deep l)) (within_less limit _ (depth_of_lpat h) (omega arith) good.1),
+      )
 
   pub pat_more : (h : LPatTree) (xs : List OpLPat) (x : OpLPat) → (pat_form limit).Good (make_pat h xs) → PatRoom h xs →
       pat_item (length xs) x → (pat_form limit).Good (make_pat h (xs ++ x ∷ []))
@@ -95,11 +105,12 @@ module _ (limit : Option ℕ) where
       let new = deep_more depth_of_op xs x in
       let long = length-append xs (x ∷ []) in
       let part : Within limit (depth_of_op x + (length xs + 1)) =
-          within_raised limit (depth_of_op x) (length xs + 1) (within_less limit _ _ (omega arith) room) item.1 in
-      (pat_is l' ∙ and_both _ _ (and_left (is_lpat h) _ is) (all_more is_op xs x (and_right (is_lpat h) _ is) item.0),
+      within_raised limit (depth_of_op x) (length xs + 1) (within_less limit _ _ (omega arith) room) item.1 in (
+        pat_is l' ∙ and_both _ _ (and_left (is_lpat h) _ is) (all_more is_op xs x (and_right (is_lpat h) _ is) item.0),
         subst (Within limit) (sym (pat_deep l'))
-        (within_less limit _ (max (max (depth_of_lpat h) (deepest (map depth_of_op xs))) (depth_of_op x) + (length xs + 1)) (omega arith)
-          (within_max limit _ _ (length xs + 1) room part)))
+            (within_less limit _ (max (max (depth_of_lpat h) (deepest (map depth_of_op xs))) (depth_of_op x) + (length xs + 1)) (omega arith)
+            (within_max limit _ _ (length xs + 1) room part)),
+      )
 
   pub pat_full : (h : LPatTree) (xs : List OpLPat) (x : OpLPat) (ys : List OpLPat) → (pat_form limit).Good (make_pat h (xs ++ x ∷ ys)) →
       PatRoom h xs
@@ -111,21 +122,31 @@ module _ (limit : Option ℕ) where
 
   abbrev pub pat_chain : Chain Terminal PatTree LPatTree OpLPat
   pat_chain = record {
-    form = pat_form limit; head = lpat_form limit; items = spelling_op; item = pat_item; inner = λ x k. starts_apat k || is_at k; starter = starts_qconop;
-    make = make_pat; head_depth = depth_of_lpat; item_depth = depth_of_op; Room = PatRoom;
+    form = pat_form limit;
+    head = lpat_form limit;
+    items = spelling_op;
+    item = pat_item;
+    inner = λ x k. starts_apat k || is_at k;
+    starter = starts_qconop;
+    make = make_pat;
+    head_depth = depth_of_lpat;
+    item_depth = depth_of_op;
+    Room = PatRoom;
     laws = record {
       spelled = λ h xs. pat_spelled (record { first = h; rest = xs });
       taken = λ x. ((out-PatTree x).first, (out-PatTree x).rest, sym (roll-out-PatTree x));
       good_head = λ h xs good.
-        let l : PLayer = record { first = h; rest = xs } in
-        (and_left _ _ (sym (pat_is l) ∙ good.0),
-          within_less limit _ _ (omega arith) (subst (Within limit) (pat_deep l) good.1));
+          let l : PLayer = record { first = h; rest = xs } in (
+            and_left _ _ (sym (pat_is l) ∙ good.0),
+            within_less limit _ _ (omega arith) (subst (Within limit) (pat_deep l) good.1),
+          );
       good_item = λ h xs x more good.
-        let l : PLayer = record { first = h; rest = xs ++ x ∷ more } in
-        (all_here is_op xs x more (and_right (is_lpat h) _ (sym (pat_is l) ∙ good.0)),
-          (let here = deep_here depth_of_op xs x more in
-            let long = length-append xs (x ∷ more) in
-            within_lowered limit _ _ (within_less limit _ _ (omega arith) (subst (Within limit) (pat_deep l) good.1))));
+          let l : PLayer = record { first = h; rest = xs ++ x ∷ more } in (
+            all_here is_op xs x more (and_right (is_lpat h) _ (sym (pat_is l) ∙ good.0)),
+            (let here = deep_here depth_of_op xs x more in
+                let long = length-append xs (x ∷ more) in
+                within_lowered limit _ _ (within_less limit _ _ (omega arith) (subst (Within limit) (pat_deep l) good.1))),
+          );
       starts = op_starts;
       ends = λ h xs k e. or_right (starts_apat k || is_at k) (starts_qconop k) e;
       ends_head = λ h k e. or_left (starts_apat k || is_at k) (starts_qconop k) e;
@@ -143,27 +164,36 @@ module _ (most limit : Option ℕ) where
       pats_item limit (length xs) x → (pats_form most limit).Good (h, xs ++ x ∷ [])
   pats_more h xs x good few item =
       let new = deep_more depth_of_pat xs x in
-      let long = length-append xs (x ∷ []) in
-      (within_less most _ (length xs + 1) (omega arith) few,
+      let long = length-append xs (x ∷ []) in (
+        within_less most _ (length xs + 1) (omega arith) few,
         and_both _ _ (and_left (is_pat h) _ good.1) (all_more is_pat xs x (and_right (is_pat h) _ good.1) item.0),
         within_less limit _ (max (max (depth_of_pat h) (deepest (map depth_of_pat xs))) (depth_of_pat x) + 0) (omega arith)
-        (within_max limit _ _ 0 (within_less limit _ _ (omega arith) good.2) (within_less limit _ _ (omega arith) item.1)))
+            (within_max limit _ _ 0 (within_less limit _ _ (omega arith) good.2) (within_less limit _ _ (omega arith) item.1)),
+      )
 
   pub pats_full : (h : PatTree) (xs : List PatTree) (x : PatTree) (ys : List PatTree) → (pats_form most limit).Good (h, xs ++ x ∷ ys) → Few most (length xs + 1)
   pats_full h xs x ys good = let long = length-append xs (x ∷ ys) in within_less most _ (length (xs ++ x ∷ ys)) (omega arith) good.0
 
   abbrev pub pats_chain : Chain Terminal Pats PatTree PatTree
   pats_chain = record {
-    form = pats_form most limit; head = pat_form limit; items = comma_pats; item = pats_item limit;
-    inner = λ x k. (starts_apat k || is_at k) || starts_qconop k; starter = is_comma;
-    make = λ h xs. (h, xs); head_depth = depth_of_pat; item_depth = depth_of_pat; Room = λ h xs. Few most (length xs + 1);
+    form = pats_form most limit;
+    head = pat_form limit;
+    items = comma_pats;
+    item = pats_item limit;
+    inner = λ x k. (starts_apat k || is_at k) || starts_qconop k;
+    starter = is_comma;
+    make = λ h xs. (h, xs);
+    head_depth = depth_of_pat;
+    item_depth = depth_of_pat;
+    Room = λ h xs. Few most (length xs + 1);
     laws = record {
       spelled = λ h xs. refl;
       taken = λ p. (p.0, p.1, refl);
       good_head = λ h xs good. (and_left (is_pat h) _ good.1, within_less limit _ _ (omega arith) good.2);
-      good_item = λ h xs x more good.
-        (all_here is_pat xs x more (and_right (is_pat h) _ good.1),
-          (let here = deep_here depth_of_pat xs x more in within_less limit _ _ (omega arith) good.2));
+      good_item = λ h xs x more good. (
+        all_here is_pat xs x more (and_right (is_pat h) _ good.1),
+        (let here = deep_here depth_of_pat xs x more in within_less limit _ _ (omega arith) good.2),
+      );
       starts = λ x. refl;
       ends = λ h xs k e. or_right ((starts_apat k || is_at k) || starts_qconop k) (is_comma k) e;
       ends_head = λ h k e. or_left ((starts_apat k || is_at k) || starts_qconop k) (is_comma k) e;

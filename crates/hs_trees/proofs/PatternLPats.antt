@@ -1,34 +1,25 @@
 -- How an `lpat` and a constructor operator are read or refused.
-use Rattle.std.proofs.Common.{◌≡◌, ℕ, zero, suc, ◌+◌, ◌<◌, ◌≤◌, Bool, true, false, List, [], ◌∷◌, ◌++◌, length, refl, sym, ap, ◌∙◌, subst, append_assoc, true≢false, arith, length-append}
-use Rattle.std.specs.Prelude.{flat_map, map, max, ◌&&◌, ◌||◌, Option, Some, None}
-use Rattle.std.specs.Str.{bytes_eq}
+use Rattle.std.proofs.Common.{◌≡◌, ℕ, true, false, List, [], ◌∷◌, ◌++◌, length, refl, sym, ap, ◌∙◌, subst, append_assoc, true≢false, arith}
+use Rattle.std.specs.Prelude.{◌&&◌, ◌||◌, Option, Some, None}
 use Rattle.std.proofs.lemmas.Slice.Eq.{bytes_eq-Decides}
-use Rattle.std.proofs.lemmas.List.{append-nil, append_cancel_left}
 use Rattle.std.proofs.lemmas.List.Folds.{flat_map-map}
-use Rattle.hs_trees.specs.Reading.{Form, SameStart, begins, Reads, Refuses}
-use Rattle.hs_trees.specs.Answers.{Within, lowered, deepest, all_of, Accepts, Rejects, Fails}
-use Rattle.hs_trees.specs.Terminals.{is_at, is_integer, is_minus, is_con, is_backquote, starts_qconop, minus}
-use Rattle.hs_trees.specs.Patterns.{Ts, gcon_tokens, qconop_tokens, spelling_apat, spelling_lpat, spelling_op, is_gcon, is_apat, is_lpat, is_op, depth_of_apat, depth_of_lpat, depth_of_op, starts_apat, starts_lpat, APats, spelling_apats, depth_of_apats, are_apats, apat_form, apats_form, lpat_form, qconop_form}
+use Rattle.hs_trees.specs.Reading.{SameStart, begins, Reads, Refuses}
+use Rattle.hs_trees.specs.Answers.{Within, Accepts, Rejects, Fails}
+use Rattle.hs_trees.specs.Terminals.{is_at, is_integer, is_minus, minus}
+use Rattle.hs_trees.specs.Patterns.{Ts, gcon_tokens, spelling_apat, spelling_lpat, is_gcon, is_apat, is_lpat, depth_of_apat, depth_of_lpat, starts_apat, APats, spelling_apats, depth_of_apats, are_apats, apat_form, apats_form, lpat_form}
 use Rattle.hs_trees.specs.declared.terminal.Terminal.{Terminal}
 use Rattle.hs_trees.specs.declared.terminal.Terminal.TheVariants as t
 use Rattle.hs_trees.specs.declared.fault.Fault.{Fault}
 use Rattle.hs_trees.specs.declared.patterns.GConTree.{GConTree}
-use Rattle.hs_trees.specs.declared.patterns.GConTree.TheVariants as g
-use Rattle.hs_trees.specs.declared.patterns.QConOpTree.{QConOpTree}
-use Rattle.hs_trees.specs.declared.patterns.QConOpTree.TheVariants as o
-use Rattle.hs_trees.specs.declared.patterns.OpLPat.{OpLPat, out-OpLPat, roll-OpLPat, roll-out-OpLPat}
 use Rattle.hs_trees.specs.declared.patterns.LPatTree.{LPatTree, LPatTree-F, out-LPatTree, roll-LPatTree, roll-out-LPatTree}
 use Rattle.hs_trees.specs.declared.patterns.LPatTree.TheVariants as lp
-use Rattle.hs_trees.specs.declared.patterns.APatTree.{APatTree, APatTree-F, roll-APatTree, fold-APatTree, fold-roll-APatTree}
+use Rattle.hs_trees.specs.declared.patterns.APatTree.{APatTree, APatTree-F, fold-APatTree, fold-roll-APatTree}
 use Rattle.hs_trees.specs.declared.patterns.APatTree.TheVariants as a
-use Rattle.hs_trees.specs.declared.patterns.PatTree.{PatTree-F}
-use Rattle.hs_trees.specs.declared.patterns.OpLPat.{OpLPat-F}
-use Rattle.hs_trees.proofs.Forms.{item_form, begins_append, begins_same, begins_within, begins_apart, same_start_append, pair, reads_pair, pair_first, pair_second}
-use Rattle.hs_trees.proofs.Limits.{within_less, within_zero, and_left, and_right, and_both, or_left, or_right}
+use Rattle.hs_trees.proofs.Forms.{begins_append, begins_same, begins_within, same_start_append}
+use Rattle.hs_trees.proofs.Limits.{within_zero, and_left, and_right, and_both, or_left, or_right}
 use Rattle.hs_trees.proofs.Chains.{fails_after}
-use Rattle.hs_trees.proofs.Narrow.{none_refused, Onto, reads_onto, refuses_onto}
-use Rattle.hs_trees.proofs.PatternLayers.{LLayer, OLayer, apat_starts, gcon_starts, qconop_starts, lpat_spelled, lpat_is, lpat_deep, op_spelled, op_is, op_deep}
-use Rattle.hs_trees.proofs.PatternCases.{con_spelled, con_deep, con_is}
+use Rattle.hs_trees.proofs.PatternLayers.{LLayer, apat_starts, lpat_spelled, lpat_is, lpat_deep}
+use Rattle.hs_trees.proofs.PatternCases.{con_spelled, con_is}
 use Rattle.hs_trees.proofs.PatternAtoms.{con_good, clash}
 
 -- the three productions
@@ -64,7 +55,7 @@ alone_is x = ap is_lpat (sym (lp.rolls-APat x)) ∙ lpat_is (LPatTree-F.APat x)
 pub data LPatCase (other : LPatTree) (s after : Ts) : Type 0 where
   of_negative : (n : List ℕ) → other ≡ lp.Negative n → s ≡ t.VarSym minus ∷ t.Integer n ∷ after → LPatCase other s after
   of_apply : (c : GConTree) (p : APats) → other ≡ lp.Apply c p.0 p.1 → is_gcon c && are_apats p ≡ true → s ≡ spelling_apat (a.Con c) ++ (spelling_apats p ++ after) →
-    LPatCase other s after
+      LPatCase other s after
   of_alone : (x : APatTree) → other ≡ lp.APat x → is_apat x ≡ true → s ≡ spelling_apat x ++ after → LPatCase other s after
 
 lpat_layer : (x : LLayer) (s after : Ts) → is_lpat (roll-LPatTree x) ≡ true → s ≡ spelling_lpat (roll-LPatTree x) ++ after → LPatCase (roll-LPatTree x) s after
@@ -75,7 +66,7 @@ lpat_layer (LPatTree-F.Apply c x xs) s after good e =
     let same = lp.rolls-Apply c x xs in
     of_apply c p same (sym (apply_is c p) ∙ ap is_lpat (sym same) ∙ good)
     (e ∙ ap (λ x. spelling_lpat x ++ after) same ∙ ap (λ ts. ts ++ after) (apply_spelled c p)
-      ∙ append_assoc (gcon_tokens c) (spelling_apats p) after ∙ ap (λ ts. ts ++ (spelling_apats p ++ after)) (sym (con_spelled c)))
+    ∙ append_assoc (gcon_tokens c) (spelling_apats p) after ∙ ap (λ ts. ts ++ (spelling_apats p ++ after)) (sym (con_spelled c)))
 lpat_layer (LPatTree-F.APat x) s after good e =
     let same = lp.rolls-APat x in
     of_alone x same (sym (alone_is x) ∙ ap is_lpat (sym same) ∙ good)
@@ -141,7 +132,7 @@ module _ (limit : Option ℕ) where
     reads = record {
       good = (negative_is n, subst (Within limit) (sym (negative_deep n)) (within_zero limit));
       only = λ s other after same good quiet e.
-        decide s other after (lpat_cases other (t.VarSym minus ∷ t.Integer n ∷ s) after good.0 (ap (λ l. l ++ s) (sym (negative_spelled n)) ∙ e));
+          decide s other after (lpat_cases other (t.VarSym minus ∷ t.Integer n ∷ s) after good.0 (ap (λ l. l ++ s) (sym (negative_spelled n)) ∙ e));
     };
     measured_is = sym (negative_deep n);
     room = omega (arith, ap length at, ap length int);
@@ -155,7 +146,10 @@ module _ (limit : Option ℕ) where
 
   pub minus_none : (ts next : Ts) → ts ≡ t.VarSym minus ∷ next → begins is_integer next ≡ false → Rejects (lpat_form limit) ts (length next)
   minus_none ts next at ends = record {
-    before = t.VarSym minus ∷ []; bad = next; split = at; left_is = refl;
+    before = t.VarSym minus ∷ [];
+    bad = next;
+    split = at;
+    left_is = refl;
     refuses = record {
       begun = (t.Integer [] ∷ [], lp.Negative [], (negative_is [], subst (Within limit) (sym (negative_deep [])) (within_zero limit)), sym (negative_spelled []));
       never = λ s other after same good quiet e. decide s other after same (lpat_cases other (t.VarSym minus ∷ s) after good.0 e);
@@ -172,8 +166,12 @@ module _ (limit : Option ℕ) where
   -- an `apat` is refused
   apat_refused : (before bad : Ts) → begins is_minus (before ++ bad) ≡ false → Refuses (apat_form limit) before bad → Refuses (lpat_form limit) before bad
   apat_refused before bad ends r = record {
-    begun = (r.begun.0, lp.APat r.begun.1,
-      (alone_is r.begun.1 ∙ r.begun.2.0, subst (Within limit) (sym (alone_deep r.begun.1)) r.begun.2.1), r.begun.3 ∙ sym (alone_spelled r.begun.1));
+    begun = (
+      r.begun.0,
+      lp.APat r.begun.1,
+      (alone_is r.begun.1 ∙ r.begun.2.0, subst (Within limit) (sym (alone_deep r.begun.1)) r.begun.2.1),
+      r.begun.3 ∙ sym (alone_spelled r.begun.1),
+    );
     never = λ s other after same good quiet e. decide s other after same good quiet (lpat_cases other (before ++ s) after good.0 e);
   }
     where
@@ -196,7 +194,7 @@ module _ (limit : Option ℕ) where
   alone_read x rest r stop = record {
     good = (alone_is x ∙ r.good.0, subst (Within limit) (sym (alone_deep x)) r.good.1);
     only = λ s other after same good quiet e.
-      decide s other after same good quiet (lpat_cases other (spelling_apat x ++ s) after good.0 (ap (λ l. l ++ s) (sym (alone_spelled x)) ∙ e));
+        decide s other after same good quiet (lpat_cases other (spelling_apat x ++ s) after good.0 (ap (λ l. l ++ s) (sym (alone_spelled x)) ∙ e));
   }
     where
       decide : (s : Ts) (other : LPatTree) (after : Ts) → SameStart rest s → (lpat_form limit).Good other →
@@ -232,10 +230,10 @@ module _ (limit : Option ℕ) where
   applied_read c here p rest r at q is = record {
     good = (apply_is c p ∙ and_both _ _ is q.good.0, subst (Within limit) (sym (apply_deep c p)) q.good.1);
     only = λ s other after same good quiet e.
-      decide s other after same good quiet
-      (lpat_cases other (spelling_apat (a.Con c) ++ (spelling_apats p ++ s)) after good.0
+        decide s other after same good quiet
+        (lpat_cases other (spelling_apat (a.Con c) ++ (spelling_apats p ++ s)) after good.0
         (ap (λ l. l ++ (spelling_apats p ++ s)) (con_spelled c) ∙ sym (append_assoc (gcon_tokens c) (spelling_apats p) s)
-          ∙ ap (λ l. l ++ s) (sym (apply_spelled c p)) ∙ e));
+        ∙ ap (λ l. l ++ s) (sym (apply_spelled c p)) ∙ e));
   }
     where
       on : (s : Ts) → SameStart rest s → SameStart here (spelling_apats p ++ s)
@@ -261,7 +259,7 @@ module _ (limit : Option ℕ) where
       let p : APats = (x, xs) in
       record {
         spelled = acc.spelled ∙ ap (λ l. l ++ here) (con_spelled c) ∙ ap (λ l. gcon_tokens c ++ l) args.spelled
-          ∙ sym (append_assoc (gcon_tokens c) (spelling_apats p) rest) ∙ ap (λ l. l ++ rest) (sym (apply_spelled c p));
+            ∙ sym (append_assoc (gcon_tokens c) (spelling_apats p) rest) ∙ ap (λ l. l ++ rest) (sym (apply_spelled c p));
         reads = applied_read c here p rest acc.reads args.spelled args.reads (sym (con_is c) ∙ acc.reads.good.0);
         measured_is = args.measured_is ∙ sym (apply_deep c p);
         room = omega (arith, acc.room, args.room);
@@ -270,13 +268,16 @@ module _ (limit : Option ℕ) where
   args_refused : (c : GConTree) (here before bad : Ts) → Reads (apat_form limit) (a.Con c) here → here ≡ before ++ bad → begins starts_apat here ≡ true →
       Refuses (apats_form limit) before bad → is_gcon c ≡ true → Refuses (lpat_form limit) (spelling_apat (a.Con c) ++ before) bad
   args_refused c here before bad r at starts q is = record {
-    begun = (q.begun.0, lp.Apply c q.begun.1.0 q.begun.1.1,
+    begun = (
+      q.begun.0,
+      lp.Apply c q.begun.1.0 q.begun.1.1,
       (apply_is c q.begun.1 ∙ and_both _ _ is q.begun.2.0, subst (Within limit) (sym (apply_deep c q.begun.1)) q.begun.2.1),
       append_assoc (spelling_apat (a.Con c)) before q.begun.0 ∙ ap (λ l. spelling_apat (a.Con c) ++ l) q.begun.3
-        ∙ ap (λ l. l ++ spelling_apats q.begun.1) (con_spelled c) ∙ sym (apply_spelled c q.begun.1));
+          ∙ ap (λ l. l ++ spelling_apats q.begun.1) (con_spelled c) ∙ sym (apply_spelled c q.begun.1),
+    );
     never = λ s other after same good quiet e.
-      decide s other after same good quiet
-      (lpat_cases other (spelling_apat (a.Con c) ++ (before ++ s)) after good.0 (sym (append_assoc (spelling_apat (a.Con c)) before s) ∙ e));
+        decide s other after same good quiet
+        (lpat_cases other (spelling_apat (a.Con c) ++ (before ++ s)) after good.0 (sym (append_assoc (spelling_apat (a.Con c)) before s) ∙ e));
   }
     where
       on : (s : Ts) → SameStart bad s → SameStart here (before ++ s)

@@ -1,13 +1,11 @@
 -- The trees of patterns, one layer at a time.
-use Rattle.std.proofs.Common.{◌≡◌, ℕ, zero, suc, ◌+◌, ◌<◌, ◌≤◌, Bool, true, false, List, [], ◌∷◌, ◌++◌, length, refl, sym, ap, ◌∙◌, subst, append_assoc, true≢false, arith}
-use Rattle.std.specs.Prelude.{flat_map, map, max, replicate, ◌&&◌, ◌||◌, nat_lt, Option, Some, None}
-use Rattle.std.specs.Str.{bytes_eq}
+use Rattle.std.proofs.Common.{◌≡◌, ℕ, ◌+◌, Bool, true, [], ◌∷◌, ◌++◌, length, refl, sym, ap, ◌∙◌, subst, true≢false}
+use Rattle.std.specs.Prelude.{flat_map, map, max, ◌&&◌}
 use Rattle.std.proofs.lemmas.List.Folds.{flat_map-map}
-use Rattle.hs_trees.specs.Reading.{Form, begins}
-use Rattle.hs_trees.specs.Answers.{Within, lowered, deepest, all_of}
-use Rattle.hs_trees.specs.Terminals.{minus, starts_qconop}
-use Rattle.hs_trees.specs.Patterns.{Ts, var_tokens, gcon_tokens, literal_token, qconop_tokens, apat_tokens, lpat_tokens, op_tokens, pat_tokens, spelling_apat, spelling_lpat, spelling_op, spelling_pat, is_gcon, apat_formed, lpat_formed, op_formed, pat_formed, is_apat, is_lpat, is_op, is_pat, apat_depth, lpat_depth, op_depth, pat_depth, depth_of_apat, depth_of_lpat, depth_of_op, depth_of_pat, starts_apat, starts_pat}
-use Rattle.hs_trees.specs.declared.terminal.Terminal.{Terminal}
+use Rattle.hs_trees.specs.Reading.{begins}
+use Rattle.hs_trees.specs.Answers.{deepest, all_of}
+use Rattle.hs_trees.specs.Terminals.{starts_qconop}
+use Rattle.hs_trees.specs.Patterns.{Ts, var_tokens, gcon_tokens, literal_token, qconop_tokens, apat_tokens, lpat_tokens, op_tokens, pat_tokens, spelling_apat, spelling_lpat, spelling_op, spelling_pat, apat_formed, lpat_formed, op_formed, pat_formed, is_apat, is_lpat, is_op, is_pat, apat_depth, lpat_depth, op_depth, pat_depth, depth_of_apat, depth_of_lpat, depth_of_op, depth_of_pat, starts_apat, starts_pat}
 use Rattle.hs_trees.specs.declared.terminal.Terminal.TheVariants as t
 use Rattle.hs_trees.specs.declared.patterns.LiteralTree.{LiteralTree}
 use Rattle.hs_trees.specs.declared.patterns.LiteralTree.TheVariants as l
@@ -20,9 +18,7 @@ use Rattle.hs_trees.specs.declared.patterns.QConOpTree.TheVariants as o
 use Rattle.hs_trees.specs.declared.patterns.PatTree.{PatTree, PatTree-F, out-PatTree, roll-PatTree, roll-out-PatTree, fold-roll-PatTree}
 use Rattle.hs_trees.specs.declared.patterns.OpLPat.{OpLPat, OpLPat-F, out-OpLPat, roll-OpLPat, roll-out-OpLPat, fold-roll-OpLPat}
 use Rattle.hs_trees.specs.declared.patterns.LPatTree.{LPatTree, LPatTree-F, out-LPatTree, roll-LPatTree, roll-out-LPatTree, fold-roll-LPatTree, map-LPatTree}
-use Rattle.hs_trees.specs.declared.patterns.LPatTree.TheVariants as lp
 use Rattle.hs_trees.specs.declared.patterns.APatTree.{APatTree, APatTree-F, out-APatTree, roll-APatTree, roll-out-APatTree, fold-roll-APatTree, map-APatTree}
-use Rattle.hs_trees.specs.declared.patterns.APatTree.TheVariants as a
 use Rattle.hs_trees.proofs.Forms.{begins_append}
 use Rattle.hs_trees.proofs.TypeLayers.{length_of_map}
 
@@ -155,4 +151,4 @@ pub pat_starts : (x : PatTree) → starts_pat (spelling_pat x) ≡ true
 pat_starts x =
     subst (λ y. starts_pat (spelling_pat y) ≡ true) (roll-out-PatTree x)
     (ap starts_pat (pat_spelled (out-PatTree x))
-      ∙ starts_pat_append (spelling_lpat (out-PatTree x).first) _ (lpat_starts (out-PatTree x).first))
+    ∙ starts_pat_append (spelling_lpat (out-PatTree x).first) _ (lpat_starts (out-PatTree x).first))

@@ -1,11 +1,10 @@
 -- The loops of the readers of patterns, over plain variables.
-use Rattle.std.proofs.Common.{◌≡◌, ℕ, zero, suc, ◌+◌, ◌<◌, ◌≤◌, Bool, true, false, List, [], ◌∷◌, ◌++◌, length, refl, sym, ap, ◌∙◌, subst, append_assoc, true≢false, arith, length-append}
-use Rattle.std.specs.Prelude.{flat_map, map, max, not, ◌&&◌, ◌||◌, Option, Some, None}
-use Rattle.std.specs.Str.{bytes_eq}
-use Rattle.hs_trees.specs.Reading.{Form, SameStart, begins, Reads, Refuses}
+use Rattle.std.proofs.Common.{◌≡◌, ℕ, ◌+◌, ◌<◌, Bool, true, false, List, [], ◌∷◌, ◌++◌, length, refl, sym, ap, ◌∙◌, subst, append_assoc, true≢false, arith, length-append}
+use Rattle.std.specs.Prelude.{map, max, not, ◌||◌, Option}
+use Rattle.hs_trees.specs.Reading.{Form, begins, Reads, Refuses}
 use Rattle.hs_trees.specs.Answers.{Within, lowered, deepest, Accepts, Rejects, Fails}
-use Rattle.hs_trees.specs.Terminals.{is_at, is_comma, is_con, is_backquote, is_minus, starts_qconop, minus}
-use Rattle.hs_trees.specs.Patterns.{Ts, qconop_tokens, spelling_apat, spelling_lpat, spelling_op, spelling_pat, is_lpat, is_op, depth_of_apat, depth_of_lpat, depth_of_op, depth_of_pat, starts_apat, starts_lpat, starts_pat, opens_name, opens_pat, APats, depth_of_apats, Few, Pats, depth_of_pats, apat_form, apats_form, lpat_form, pat_form, pats_form, qconop_form}
+use Rattle.hs_trees.specs.Terminals.{is_at, is_comma, is_con, is_backquote, is_minus, starts_qconop}
+use Rattle.hs_trees.specs.Patterns.{Ts, qconop_tokens, spelling_lpat, spelling_op, is_lpat, depth_of_apat, depth_of_lpat, depth_of_op, depth_of_pat, starts_apat, starts_lpat, starts_pat, opens_name, opens_pat, depth_of_apats, depth_of_pats, apat_form, apats_form, lpat_form, pat_form, pats_form, qconop_form}
 use Rattle.hs_trees.specs.declared.terminal.Terminal.{Terminal}
 use Rattle.hs_trees.specs.declared.terminal.Terminal.TheVariants as t
 use Rattle.hs_trees.specs.declared.fault.Fault.{Fault}
@@ -14,13 +13,13 @@ use Rattle.hs_trees.specs.declared.patterns.QConOpTree.TheVariants as o
 use Rattle.hs_trees.specs.declared.patterns.APatTree.{APatTree}
 use Rattle.hs_trees.specs.declared.patterns.LPatTree.{LPatTree, LPatTree-F}
 use Rattle.hs_trees.specs.declared.patterns.LPatTree.TheVariants as lp
-use Rattle.hs_trees.specs.declared.patterns.OpLPat.{OpLPat, OpLPat-F, out-OpLPat, roll-OpLPat, roll-out-OpLPat}
+use Rattle.hs_trees.specs.declared.patterns.OpLPat.{OpLPat, out-OpLPat, roll-OpLPat, roll-out-OpLPat}
 use Rattle.hs_trees.specs.declared.patterns.PatTree.{PatTree}
-use Rattle.hs_trees.proofs.Forms.{item_form, behind, reads_behind, refuses_behind, begins_append, begins_same, pair, reads_pair, pair_first, pair_second}
+use Rattle.hs_trees.proofs.Forms.{item_form, behind, reads_behind, refuses_behind, begins_same, pair, reads_pair, pair_first, pair_second}
 use Rattle.hs_trees.proofs.Limits.{within_zero}
 use Rattle.hs_trees.proofs.Chains.{State, state_first, state_step, state_stop, state_head_fails, state_fails, state_over, fails_after}
 use Rattle.hs_trees.proofs.Narrow.{none_refused, Onto, reads_onto, refuses_onto}
-use Rattle.hs_trees.proofs.PatternLayers.{PLayer, OLayer, qconop_starts, lpat_starts, lpat_spelled, lpat_is, lpat_deep, op_spelled, op_is, op_deep, pat_deep}
+use Rattle.hs_trees.proofs.PatternLayers.{PLayer, OLayer, qconop_starts, lpat_starts, lpat_is, lpat_deep, op_spelled, op_is, op_deep, pat_deep}
 use Rattle.hs_trees.proofs.PatternChains.{make_pat, apats_chain, pat_chain, pats_chain, pat_item}
 
 abbrev pub ApatsState : Option ℕ → Ts → APatTree → List APatTree → Ts → ℕ → Type 0
@@ -62,7 +61,10 @@ qconop_ok x ts rest at = record {
 
 pub qconop_none : (ts : Ts) → begins starts_qconop ts ≡ false → Rejects qconop_form ts (length ts)
 qconop_none ts ends = record {
-  before = []; bad = ts; split = refl; left_is = refl;
+  before = [];
+  bad = ts;
+  split = refl;
+  left_is = refl;
   refuses = none_refused qconop_form starts_qconop o.Colon tt (λ x good. qconop_starts x) ts ends;
 }
 
@@ -74,7 +76,10 @@ name_missed s (o.Quoted n) after ends e = let e' : s ≡ t.Con n ∷ t.Backquote
 -- a backquote and no constructor
 pub quoted_none : (ts next : Ts) → ts ≡ t.Backquote ∷ next → begins is_con next ≡ false → Rejects qconop_form ts (length next)
 quoted_none ts next at ends = record {
-  before = t.Backquote ∷ []; bad = next; split = at; left_is = refl;
+  before = t.Backquote ∷ [];
+  bad = next;
+  split = at;
+  left_is = refl;
   refuses = record {
     begun = (t.Con [] ∷ t.Backquote ∷ [], o.Quoted [], tt, refl);
     never = λ s other after same good quiet e. name_missed s other after (begins_same is_con next s same ∙ ends) e;
@@ -90,7 +95,10 @@ quote_missed n s (o.Quoted m) after ends e = let e' : s ≡ t.Backquote ∷ afte
 pub quoted_open : (n : List ℕ) (ts next more : Ts) → ts ≡ t.Backquote ∷ next → next ≡ t.Con n ∷ more → begins is_backquote more ≡ false →
     Rejects qconop_form ts (length more)
 quoted_open n ts next more at con ends = record {
-  before = t.Backquote ∷ t.Con n ∷ []; bad = more; split = at ∙ ap (λ l. t.Backquote ∷ l) con; left_is = refl;
+  before = t.Backquote ∷ t.Con n ∷ [];
+  bad = more;
+  split = at ∙ ap (λ l. t.Backquote ∷ l) con;
+  left_is = refl;
   refuses = record {
     begun = (t.Backquote ∷ [], o.Quoted n, tt, refl);
     never = λ s other after same good quiet e. quote_missed n s other after (begins_same is_backquote more s same ∙ ends) e;
@@ -125,17 +133,26 @@ module _ (limit : Option ℕ) where
   item_onto n = record {
     back = λ y. (((out-OpLPat y).op, (out-OpLPat y).pat), sym (roll-out-OpLPat y));
     tokens = λ p. op_spelled (record { op = p.0; pat = p.1 });
-    good = λ p g. (op_is (record { op = p.0; pat = p.1 }) ∙ g.1.0,
-      subst (Within (lowered limit (n + 1))) (sym (op_deep (record { op = p.0; pat = p.1 }))) g.1.1);
-    good_back = λ p g. (tt, (sym (op_is (record { op = p.0; pat = p.1 })) ∙ g.0,
-      subst (Within (lowered limit (n + 1))) (op_deep (record { op = p.0; pat = p.1 })) g.1), tt);
+    good = λ p g. (
+      op_is (record { op = p.0; pat = p.1 }) ∙ g.1.0,
+      subst (Within (lowered limit (n + 1))) (sym (op_deep (record { op = p.0; pat = p.1 }))) g.1.1,
+    );
+    good_back = λ p g. (
+      tt,
+      (
+        sym (op_is (record { op = p.0; pat = p.1 })) ∙ g.0,
+        subst (Within (lowered limit (n + 1))) (op_deep (record { op = p.0; pat = p.1 })) g.1,
+      ),
+      tt,
+    );
     extends = λ p k e. e;
   }
 
   least_good : (n : ℕ) → (lpat_form (lowered limit n)).Good (lp.Negative [])
-  least_good n =
-      (ap is_lpat (sym (lp.rolls-Negative [])) ∙ lpat_is (LPatTree-F.Negative []),
-        subst (Within (lowered limit n)) (sym (ap depth_of_lpat (sym (lp.rolls-Negative [])) ∙ lpat_deep (LPatTree-F.Negative []))) (within_zero (lowered limit n)))
+  least_good n = (
+    ap is_lpat (sym (lp.rolls-Negative [])) ∙ lpat_is (LPatTree-F.Negative []),
+    subst (Within (lowered limit n)) (sym (ap depth_of_lpat (sym (lp.rolls-Negative [])) ∙ lpat_deep (LPatTree-F.Negative []))) (within_zero (lowered limit n)),
+  )
 
   pub item_reads : (n : ℕ) (op : QConOpTree) (next : Ts) (x : LPatTree) (rest : Ts) → Reads qconop_form op next → next ≡ spelling_lpat x ++ rest →
       Reads (lpat_form (lowered limit (n + 1))) x rest → Reads (item_at n) (make_op op x) rest
@@ -147,7 +164,7 @@ module _ (limit : Option ℕ) where
   op_refused n before bad r =
       refuses_onto (both_at n) (item_at n) make_item (item_onto n) before bad
       (pair_first qconop_form (lpat_form (lowered limit (n + 1))) (λ x y. Unit {0}) starts_lpat lpat_begins (λ x k h. refl) before bad r
-        (lp.Negative []) (λ x good. (least_good (n + 1), tt)))
+      (lp.Negative []) (λ x good. (least_good (n + 1), tt)))
 
   operand_refused : (n : ℕ) (op : QConOpTree) (next before bad : Ts) → Reads qconop_form op next → next ≡ before ++ bad →
       Refuses (lpat_form (lowered limit (n + 1))) before bad → Refuses (item_at n) (qconop_tokens op ++ before) bad
@@ -183,8 +200,8 @@ module _ (limit : Option ℕ) where
   pat_fails ts h xs here d op next b e s starts within acc same r =
       state_fails (pat_chain limit) ts h xs here d e s starts (room_at ts h xs here d s within)
       (fails_after (item_at (length xs)) (lpat_form (lowered limit (length xs + 1))) (qconop_tokens op) here next e acc.spelled
-        (λ before bad split q. operand_refused (length xs) op next before bad acc.reads split q)
-        (subst (λ l. Fails (lpat_form l) next e) same r))
+      (λ before bad split q. operand_refused (length xs) op next before bad acc.reads split q)
+      (subst (λ l. Fails (lpat_form l) next e) same r))
 
   pub pat_step : (ts : Ts) (h : LPatTree) (xs : List OpLPat) (here : Ts) (d : ℕ) (op : QConOpTree) (next : Ts) (b : Option ℕ) (x : LPatTree) (rest : Ts) (e : ℕ) →
       PatState limit ts h xs here d → Within limit (d + (length xs + 1)) → Accepts qconop_form (λ x. 0) here op next 0 →
@@ -194,7 +211,7 @@ module _ (limit : Option ℕ) where
       let layer : OLayer = record { op = op; pat = x } in
       let item : Accepts (item_at (length xs)) depth_of_op here (make_op op x) rest e = record {
         spelled = acc.spelled ∙ ap (λ l. qconop_tokens op ++ l) part'.spelled ∙ sym (append_assoc (qconop_tokens op) (spelling_lpat x) rest)
-          ∙ ap (λ l. l ++ rest) (sym (op_spelled layer));
+            ∙ ap (λ l. l ++ rest) (sym (op_spelled layer));
         reads = item_reads (length xs) op next x rest acc.reads part'.spelled part'.reads;
         measured_is = part'.measured_is ∙ sym (op_deep layer);
         room = omega (arith, acc.room, part'.room);
@@ -240,8 +257,10 @@ module _ (most limit : Option ℕ) where
       PatsState most limit ts h (xs ++ x ∷ []) rest (max d e)
   pats_step ts h xs here next d x rest e s at few acc =
       let item : Accepts (behind t.Comma (pat_form limit)) depth_of_pat here x rest e = record {
-        spelled = at ∙ ap (λ l. t.Comma ∷ l) acc.spelled; reads = reads_behind t.Comma (pat_form limit) x rest acc.reads;
-        measured_is = acc.measured_is; room = omega (arith, acc.room, ap length at);
+        spelled = at ∙ ap (λ l. t.Comma ∷ l) acc.spelled;
+        reads = reads_behind t.Comma (pat_form limit) x rest acc.reads;
+        measured_is = acc.measured_is;
+        room = omega (arith, acc.room, ap length at);
       } in
       state_step (pats_chain most limit) ts h xs here d x rest e s few item
 
@@ -250,7 +269,7 @@ module _ (most limit : Option ℕ) where
   pats_fails ts h xs here next d e s at few r =
       state_fails (pats_chain most limit) ts h xs here d e s (ap (begins is_comma) at) few
       (fails_after (behind t.Comma (pat_form limit)) (pat_form limit) (t.Comma ∷ []) here next e at
-        (λ before bad split q. refuses_behind t.Comma (pat_form limit) before bad q) r)
+      (λ before bad split q. refuses_behind t.Comma (pat_form limit) before bad q) r)
 
   pub pats_over : (ts : Ts) (h : PatTree) (xs : List PatTree) (here next : Ts) (d : ℕ) → PatsState most limit ts h xs here d → here ≡ t.Comma ∷ next →
       (Within most (length xs + 1) → ⊥) → Rejects (pats_form most limit) ts (length here)

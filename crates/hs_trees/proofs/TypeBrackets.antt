@@ -1,6 +1,6 @@
 -- How an `atype` in brackets is read or refused.
-use Rattle.std.proofs.Common.{◌≡◌, ℕ, zero, suc, ◌+◌, ◌<◌, ◌≤◌, Bool, true, false, List, [], ◌∷◌, ◌++◌, length, refl, sym, ap, ◌∙◌, subst, append_assoc, true≢false, arith}
-use Rattle.std.specs.Prelude.{flat_map, map, max, replicate, ◌&&◌, nat_lt, Option, Some, None}
+use Rattle.std.proofs.Common.{◌≡◌, ℕ, zero, suc, ◌<◌, Bool, true, false, List, [], ◌∷◌, ◌++◌, refl, sym, ap, ◌∙◌, subst, true≢false, arith}
+use Rattle.std.specs.Prelude.{replicate, Option}
 use Rattle.std.proofs.lemmas.Bool.Decides.{nat_tests}
 use Rattle.hs_trees.specs.Reading.{Form, SameStart, begins, Reads, Refuses}
 use Rattle.hs_trees.specs.Answers.{Within, lowered}
@@ -8,7 +8,7 @@ use Rattle.hs_trees.specs.Types.{starts_atype, spelling_atype, spelling_type, de
 use Rattle.hs_trees.specs.Terminals.{is_arrow, is_comma, is_right_paren, is_right_bracket}
 use Rattle.hs_trees.specs.declared.terminal.Terminal.{Terminal}
 use Rattle.hs_trees.specs.declared.terminal.Terminal.TheVariants as t
-use Rattle.hs_trees.specs.declared.types.ATypeTree.{ATypeTree, ATypeTree-F, roll-ATypeTree}
+use Rattle.hs_trees.specs.declared.types.ATypeTree.{ATypeTree, ATypeTree-F}
 use Rattle.hs_trees.specs.declared.types.ATypeTree.TheVariants as a
 use Rattle.hs_trees.specs.declared.types.TypeTree.{TypeTree}
 use Rattle.hs_trees.proofs.Forms.{begins_append, begins_same, same_start_append, closed}
@@ -34,22 +34,22 @@ not_parts p s after ends e = true≢false (sym (ap (begins starts_atype) e ∙ p
 module _ (limit : Option ℕ) where
   paren_read : (x : ATypeTree) (body rest : List Terminal) → spelling_atype x ≡ t.LeftParen ∷ body → is_atype x ≡ true → Within limit (depth_of_atype x) →
       ((s : List Terminal) (other : ATypeTree) (after : List Terminal) → SameStart rest s → (is_atype other ≡ true) × Within limit (depth_of_atype other) →
-        ParenCase other (body ++ s) after → (other ≡ x) × (after ≡ s)) →
+      ParenCase other (body ++ s) after → (other ≡ x) × (after ≡ s)) →
       Reads (atype_form limit) x rest
   paren_read x body rest spelled is within decide = record {
     good = (is, within);
     only = λ s other after same good quiet e.
-      decide s other after same good (paren_cases other (body ++ s) after good.0 (sym (ap (λ l. l ++ s) spelled) ∙ e));
+        decide s other after same good (paren_cases other (body ++ s) after good.0 (sym (ap (λ l. l ++ s) spelled) ∙ e));
   }
 
   bracket_read : (x : ATypeTree) (body rest : List Terminal) → spelling_atype x ≡ t.LeftBracket ∷ body → is_atype x ≡ true → Within limit (depth_of_atype x) →
       ((s : List Terminal) (other : ATypeTree) (after : List Terminal) → SameStart rest s → (is_atype other ≡ true) × Within limit (depth_of_atype other) →
-        BracketCase other (body ++ s) after → (other ≡ x) × (after ≡ s)) →
+      BracketCase other (body ++ s) after → (other ≡ x) × (after ≡ s)) →
       Reads (atype_form limit) x rest
   bracket_read x body rest spelled is within decide = record {
     good = (is, within);
     only = λ s other after same good quiet e.
-      decide s other after same good (bracket_cases other (body ++ s) after good.0 (sym (ap (λ l. l ++ s) spelled) ∙ e));
+        decide s other after same good (bracket_cases other (body ++ s) after good.0 (sym (ap (λ l. l ++ s) spelled) ∙ e));
   }
 
   -- the names without parts
@@ -57,8 +57,10 @@ module _ (limit : Option ℕ) where
   unit_spelled = ap spelling_atype (sym a.rolls-Unit) ∙ atype_spelled ATypeTree-F.Unit
 
   pub unit_good : (is_atype a.Unit ≡ true) × Within limit (depth_of_atype a.Unit)
-  unit_good = (ap is_atype (sym a.rolls-Unit) ∙ atype_is ATypeTree-F.Unit,
-    subst (Within limit) (sym (ap depth_of_atype (sym a.rolls-Unit) ∙ atype_deep ATypeTree-F.Unit)) (within_zero limit))
+  unit_good = (
+    ap is_atype (sym a.rolls-Unit) ∙ atype_is ATypeTree-F.Unit,
+    subst (Within limit) (sym (ap depth_of_atype (sym a.rolls-Unit) ∙ atype_deep ATypeTree-F.Unit)) (within_zero limit),
+  )
 
   unit_decide : (s : List Terminal) (other : ATypeTree) (after : List Terminal) → ParenCase other (t.RightParen ∷ s) after → (other ≡ a.Unit) × (after ≡ s)
   unit_decide s other after (of_unit eq e) = (eq, cc)
@@ -83,8 +85,10 @@ module _ (limit : Option ℕ) where
   arrow_spelled = ap spelling_atype (sym a.rolls-ArrowCon) ∙ atype_spelled ATypeTree-F.ArrowCon
 
   pub arrow_good : (is_atype a.ArrowCon ≡ true) × Within limit (depth_of_atype a.ArrowCon)
-  arrow_good = (ap is_atype (sym a.rolls-ArrowCon) ∙ atype_is ATypeTree-F.ArrowCon,
-    subst (Within limit) (sym (ap depth_of_atype (sym a.rolls-ArrowCon) ∙ atype_deep ATypeTree-F.ArrowCon)) (within_zero limit))
+  arrow_good = (
+    ap is_atype (sym a.rolls-ArrowCon) ∙ atype_is ATypeTree-F.ArrowCon,
+    subst (Within limit) (sym (ap depth_of_atype (sym a.rolls-ArrowCon) ∙ atype_deep ATypeTree-F.ArrowCon)) (within_zero limit),
+  )
 
   pub arrow_read : (rest : List Terminal) → Reads (atype_form limit) a.ArrowCon rest
   arrow_read rest =
@@ -95,8 +99,10 @@ module _ (limit : Option ℕ) where
   tuple_spelled n = ap spelling_atype (sym (a.rolls-TupleCon n)) ∙ atype_spelled (ATypeTree-F.TupleCon n)
 
   pub tuple_good : (n : ℕ) → (0 < n) × (n < 15) → (is_atype (a.TupleCon n) ≡ true) × Within limit (depth_of_atype (a.TupleCon n))
-  tuple_good n h = (ap is_atype (sym (a.rolls-TupleCon n)) ∙ atype_is (ATypeTree-F.TupleCon n) ∙ grind (arith, nat_tests),
-    subst (Within limit) (sym (ap depth_of_atype (sym (a.rolls-TupleCon n)) ∙ atype_deep (ATypeTree-F.TupleCon n))) (within_zero limit))
+  tuple_good n h = (
+    ap is_atype (sym (a.rolls-TupleCon n)) ∙ atype_is (ATypeTree-F.TupleCon n) ∙ grind (arith, nat_tests),
+    subst (Within limit) (sym (ap depth_of_atype (sym (a.rolls-TupleCon n)) ∙ atype_deep (ATypeTree-F.TupleCon n))) (within_zero limit),
+  )
 
   comma_first : (n : ℕ) (s : List Terminal) → 0 < n → begins is_comma ((replicate n t.Comma ++ t.RightParen ∷ []) ++ s) ≡ true
   comma_first zero s h = absurd (omega arith)
@@ -190,8 +196,10 @@ module _ (limit : Option ℕ) where
   list_con_spelled = ap spelling_atype (sym a.rolls-ListCon) ∙ atype_spelled ATypeTree-F.ListCon
 
   pub list_con_good : (is_atype a.ListCon ≡ true) × Within limit (depth_of_atype a.ListCon)
-  list_con_good = (ap is_atype (sym a.rolls-ListCon) ∙ atype_is ATypeTree-F.ListCon,
-    subst (Within limit) (sym (ap depth_of_atype (sym a.rolls-ListCon) ∙ atype_deep ATypeTree-F.ListCon)) (within_zero limit))
+  list_con_good = (
+    ap is_atype (sym a.rolls-ListCon) ∙ atype_is ATypeTree-F.ListCon,
+    subst (Within limit) (sym (ap depth_of_atype (sym a.rolls-ListCon) ∙ atype_deep ATypeTree-F.ListCon)) (within_zero limit),
+  )
 
   list_start : (x : TypeTree) (after : List Terminal) → begins starts_atype ((spelling_type x ++ t.RightBracket ∷ []) ++ after) ≡ true
   list_start x after =
@@ -236,7 +244,7 @@ module _ (limit : Option ℕ) where
   paren_refused : (before bad more : List Terminal) (x : ATypeTree) → (is_atype x ≡ true) × Within limit (depth_of_atype x) →
       spelling_atype x ≡ t.LeftParen ∷ (before ++ more) →
       ((s : List Terminal) (other : ATypeTree) (after : List Terminal) → SameStart bad s → (is_atype other ≡ true) × Within limit (depth_of_atype other) →
-        ParenCase other (before ++ s) after → ⊥) →
+      ParenCase other (before ++ s) after → ⊥) →
       Refuses (atype_form limit) (t.LeftParen ∷ before) bad
   paren_refused before bad more x good spelled decide = record {
     begun = (more, x, good, sym spelled);
@@ -246,7 +254,7 @@ module _ (limit : Option ℕ) where
   bracket_refused : (before bad more : List Terminal) (x : ATypeTree) → (is_atype x ≡ true) × Within limit (depth_of_atype x) →
       spelling_atype x ≡ t.LeftBracket ∷ (before ++ more) →
       ((s : List Terminal) (other : ATypeTree) (after : List Terminal) → SameStart bad s → (is_atype other ≡ true) × Within limit (depth_of_atype other) →
-        BracketCase other (before ++ s) after → ⊥) →
+      BracketCase other (before ++ s) after → ⊥) →
       Refuses (atype_form limit) (t.LeftBracket ∷ before) bad
   bracket_refused before bad more x good spelled decide = record {
     begun = (more, x, good, sym spelled);
@@ -258,7 +266,7 @@ module _ (limit : Option ℕ) where
   none_refused bad ends = record {
     begun = (t.LeftParen ∷ t.RightParen ∷ [], a.Unit, unit_good, sym unit_spelled);
     never = λ s other after same good quiet e.
-      true≢false (sym (ap (begins starts_atype) e ∙ begins_append starts_atype (spelling_atype other) after (atype_starts other))
+        true≢false (sym (ap (begins starts_atype) e ∙ begins_append starts_atype (spelling_atype other) after (atype_starts other))
         ∙ begins_same starts_atype bad s same ∙ ends);
   }
 
@@ -300,7 +308,7 @@ module _ (limit : Option ℕ) where
       paren_refused before bad r.begun.0 (a.TupleCon r.begun.1) (tuple_good r.begun.1 r.begun.2)
       (tuple_spelled r.begun.1 ∙ ap (λ xs. t.LeftParen ∷ xs) (sym r.begun.3))
       (λ s other after same good c.
-        tuple_only before bad r s other after same (begins_same is_comma _ _ (same_start_append before bad s same) ∙ comma) c)
+      tuple_only before bad r s other after same (begins_same is_comma _ _ (same_start_append before bad s same) ∙ comma) c)
 
   parts_only : (before bad : List Terminal) → Refuses inner_parts before bad → (s : List Terminal) (other : ATypeTree) (after : List Terminal) →
       SameStart bad s → (is_atype other ≡ true) × Within limit (depth_of_atype other) → begins ends_name (before ++ s) ≡ false →
@@ -317,7 +325,7 @@ module _ (limit : Option ℕ) where
       paren_refused before bad r.begun.0 (a.Parts r.begun.1.0 r.begun.1.1) (parts_good r.begun.1 one r.begun.2)
       (parts_spelled r.begun.1 ∙ ap (λ xs. t.LeftParen ∷ xs) (sym r.begun.3))
       (λ s other after same good c.
-        parts_only before bad r s other after same good (begins_same ends_name _ _ (same_start_append before bad s same) ∙ ends) c)
+      parts_only before bad r s other after same good (begins_same ends_name _ _ (same_start_append before bad s same) ∙ ends) c)
 
   no_room : (p : Parts) (other : ATypeTree) → (Within limit 1 → ⊥) → other ≡ a.Parts p.0 p.1 → Within limit (depth_of_atype other) → ⊥
   no_room p other over eq within =
@@ -349,7 +357,7 @@ module _ (limit : Option ℕ) where
       bracket_refused before bad r.begun.0 (a.List r.begun.1) (list_good r.begun.1 one r.begun.2)
       (list_spelled r.begun.1 ∙ ap (λ xs. t.LeftBracket ∷ xs) (sym r.begun.3))
       (λ s other after same good c.
-        list_only before bad r s other after same good (begins_same is_right_bracket _ _ (same_start_append before bad s same) ∙ ends) c)
+      list_only before bad r s other after same good (begins_same is_right_bracket _ _ (same_start_append before bad s same) ∙ ends) c)
 
   bracket_deep : (s : List Terminal) (other : ATypeTree) (after : List Terminal) → (Within limit 1 → ⊥) →
       (is_atype other ≡ true) × Within limit (depth_of_atype other) → begins is_right_bracket s ≡ false → BracketCase other s after → ⊥

@@ -1,20 +1,18 @@
 -- What an `atype` is by its first tokens, and how it is read from its parts.
-use Rattle.std.proofs.Common.{◌≡◌, ℕ, zero, suc, ◌+◌, ◌<◌, ◌≤◌, Bool, true, false, List, [], ◌∷◌, ◌++◌, length, refl, sym, ap, ◌∙◌, subst, append_assoc, true≢false, arith}
-use Rattle.std.specs.Prelude.{flat_map, map, max, replicate, ◌&&◌, nat_lt, Option, Some, None}
+use Rattle.std.proofs.Common.{◌≡◌, ℕ, ◌+◌, ◌<◌, true, List, [], ◌∷◌, ◌++◌, sym, ap, ◌∙◌, subst, arith}
+use Rattle.std.specs.Prelude.{map, replicate, ◌&&◌, nat_lt, Option}
 use Rattle.std.proofs.lemmas.List.Folds.{flat_map-map}
 use Rattle.std.proofs.lemmas.Bool.Decides.{nat_tests}
-use Rattle.hs_trees.specs.Reading.{Form, SameStart, begins, Reads, Refuses}
-use Rattle.hs_trees.specs.Answers.{Within, lowered, deepest, all_of}
-use Rattle.hs_trees.specs.Types.{atype_tokens, starts_atype, spelling_atype, spelling_btype, spelling_type, depth_of_atype, depth_of_btype, depth_of_type, is_atype, is_btype, is_type, Parts, spelling_parts, depth_of_parts, are_parts, atype_form, btype_form, type_form, parts_form, tuple_name_form}
-use Rattle.hs_trees.specs.Terminals.{is_arrow, is_comma}
+use Rattle.hs_trees.specs.Reading.{Reads}
+use Rattle.hs_trees.specs.Answers.{Within, all_of}
+use Rattle.hs_trees.specs.Types.{atype_tokens, spelling_atype, spelling_btype, spelling_type, depth_of_atype, depth_of_type, is_atype, is_type, Parts, spelling_parts, depth_of_parts, are_parts, atype_form}
 use Rattle.hs_trees.specs.declared.terminal.Terminal.{Terminal}
 use Rattle.hs_trees.specs.declared.terminal.Terminal.TheVariants as t
 use Rattle.hs_trees.specs.declared.types.ATypeTree.{ATypeTree, ATypeTree-F, out-ATypeTree, roll-ATypeTree, roll-out-ATypeTree, map-ATypeTree}
 use Rattle.hs_trees.specs.declared.types.ATypeTree.TheVariants as a
 use Rattle.hs_trees.specs.declared.types.TypeTree.{TypeTree}
-use Rattle.hs_trees.proofs.Forms.{begins_append, begins_same, same_start_append, closed}
-use Rattle.hs_trees.proofs.Limits.{within_less, within_lowered, within_raised, within_zero, and_left, and_right}
-use Rattle.hs_trees.proofs.TypeLayers.{ALayer, atype_spelled, atype_deep, atype_is, atype_starts, type_starts, length_of_map}
+use Rattle.hs_trees.proofs.Limits.{within_zero, and_left, and_right}
+use Rattle.hs_trees.proofs.TypeLayers.{ALayer, atype_spelled, atype_deep, atype_is, length_of_map}
 
 pub parts_spelled : (p : Parts) → spelling_atype (a.Parts p.0 p.1) ≡ t.LeftParen ∷ (spelling_parts p ++ t.RightParen ∷ [])
 parts_spelled p =
@@ -43,9 +41,9 @@ pub data ParenCase (other : ATypeTree) (s after : List Terminal) : Type 0 where
   of_unit : other ≡ a.Unit → s ≡ t.RightParen ∷ after → ParenCase other s after
   of_arrow : other ≡ a.ArrowCon → s ≡ t.Arrow ∷ t.RightParen ∷ after → ParenCase other s after
   of_tuple : (commas : ℕ) → other ≡ a.TupleCon commas → 0 < commas → commas < 15 →
-    s ≡ (replicate commas t.Comma ++ t.RightParen ∷ []) ++ after → ParenCase other s after
+      s ≡ (replicate commas t.Comma ++ t.RightParen ∷ []) ++ after → ParenCase other s after
   of_parts : (p : Parts) → other ≡ a.Parts p.0 p.1 → are_parts p ≡ true → s ≡ (spelling_parts p ++ t.RightParen ∷ []) ++ after →
-    ParenCase other s after
+      ParenCase other s after
 
 tail_is : (x : Terminal) (xs ys : List Terminal) → x ∷ xs ≡ x ∷ ys → xs ≡ ys
 tail_is x xs ys e = cc
@@ -90,7 +88,7 @@ paren_cases other =
 pub data BracketCase (other : ATypeTree) (s after : List Terminal) : Type 0 where
   of_list_con : other ≡ a.ListCon → s ≡ t.RightBracket ∷ after → BracketCase other s after
   of_list : (x : TypeTree) → other ≡ a.List x → is_type x ≡ true → s ≡ (spelling_type x ++ t.RightBracket ∷ []) ++ after →
-    BracketCase other s after
+      BracketCase other s after
 
 con_bracket : (name : List ℕ) (xs ys : List Terminal) → t.LeftBracket ∷ xs ≡ t.Con name ∷ ys → ⊥
 con_bracket name xs ys e = cc
@@ -161,18 +159,22 @@ var_case other =
 -- What a name, `()`, `[]` and `(->)` read.
 pub con_read : (limit : Option ℕ) (name : List ℕ) (rest : List Terminal) → Reads (atype_form limit) (a.Con name) rest
 con_read limit name rest = record {
-  good = (ap is_atype (sym (a.rolls-Con name)) ∙ atype_is (ATypeTree-F.Con name),
-    subst (Within limit) (sym (ap depth_of_atype (sym (a.rolls-Con name)) ∙ atype_deep (ATypeTree-F.Con name))) (within_zero limit));
+  good = (
+    ap is_atype (sym (a.rolls-Con name)) ∙ atype_is (ATypeTree-F.Con name),
+    subst (Within limit) (sym (ap depth_of_atype (sym (a.rolls-Con name)) ∙ atype_deep (ATypeTree-F.Con name))) (within_zero limit),
+  );
   only = λ s other after same good quiet e.
-    con_case other name s after
-    (sym (ap (λ o. spelling_atype o ++ s) (sym (a.rolls-Con name)) ∙ ap (λ l. l ++ s) (atype_spelled (ATypeTree-F.Con name))) ∙ e);
+      con_case other name s after
+      (sym (ap (λ o. spelling_atype o ++ s) (sym (a.rolls-Con name)) ∙ ap (λ l. l ++ s) (atype_spelled (ATypeTree-F.Con name))) ∙ e);
 }
 
 pub var_read : (limit : Option ℕ) (name : List ℕ) (rest : List Terminal) → Reads (atype_form limit) (a.Var name) rest
 var_read limit name rest = record {
-  good = (ap is_atype (sym (a.rolls-Var name)) ∙ atype_is (ATypeTree-F.Var name),
-    subst (Within limit) (sym (ap depth_of_atype (sym (a.rolls-Var name)) ∙ atype_deep (ATypeTree-F.Var name))) (within_zero limit));
+  good = (
+    ap is_atype (sym (a.rolls-Var name)) ∙ atype_is (ATypeTree-F.Var name),
+    subst (Within limit) (sym (ap depth_of_atype (sym (a.rolls-Var name)) ∙ atype_deep (ATypeTree-F.Var name))) (within_zero limit),
+  );
   only = λ s other after same good quiet e.
-    var_case other name s after
-    (sym (ap (λ o. spelling_atype o ++ s) (sym (a.rolls-Var name)) ∙ ap (λ l. l ++ s) (atype_spelled (ATypeTree-F.Var name))) ∙ e);
+      var_case other name s after
+      (sym (ap (λ o. spelling_atype o ++ s) (sym (a.rolls-Var name)) ∙ ap (λ l. l ++ s) (atype_spelled (ATypeTree-F.Var name))) ∙ e);
 }

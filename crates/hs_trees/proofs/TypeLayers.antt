@@ -1,18 +1,15 @@
 -- The trees of types, one layer at a time.
-use Rattle.std.proofs.Common.{◌≡◌, ℕ, zero, suc, ◌+◌, ◌<◌, ◌≤◌, Bool, true, false, List, [], ◌∷◌, ◌++◌, length, refl, sym, ap, ◌∙◌, subst, append_assoc, true≢false, arith}
-use Rattle.std.specs.Prelude.{flat_map, map, max, replicate, ◌&&◌, nat_lt, Option, Some, None}
+use Rattle.std.proofs.Common.{◌≡◌, ℕ, suc, ◌+◌, Bool, true, List, [], ◌∷◌, ◌++◌, length, refl, ap, ◌∙◌, subst}
+use Rattle.std.specs.Prelude.{flat_map, map, max, ◌&&◌}
 use Rattle.std.proofs.lemmas.List.Folds.{flat_map-map}
-use Rattle.std.proofs.lemmas.Bool.Decides.{nat_tests}
-use Rattle.hs_trees.specs.Reading.{Form, SameStart, begins, Reads, Refuses}
-use Rattle.hs_trees.specs.Answers.{Within, lowered, deepest, all_of}
-use Rattle.hs_trees.specs.Types.{atype_tokens, btype_tokens, type_tokens, atype_depth, btype_depth, type_depth, atype_formed, btype_formed, type_formed, starts_atype, spelling_atype, spelling_btype, spelling_type, depth_of_atype, depth_of_btype, depth_of_type, is_atype, is_btype, is_type, Parts, spelling_parts, depth_of_parts, are_parts}
-use Rattle.hs_trees.specs.Terminals.{is_arrow, is_comma}
+use Rattle.hs_trees.specs.Reading.{begins}
+use Rattle.hs_trees.specs.Answers.{deepest, all_of}
+use Rattle.hs_trees.specs.Types.{atype_tokens, btype_tokens, type_tokens, atype_depth, btype_depth, type_depth, atype_formed, btype_formed, type_formed, starts_atype, spelling_atype, spelling_btype, spelling_type, depth_of_atype, depth_of_btype, depth_of_type, is_atype, is_btype, is_type}
 use Rattle.hs_trees.specs.declared.terminal.Terminal.{Terminal}
 use Rattle.hs_trees.specs.declared.terminal.Terminal.TheVariants as t
 use Rattle.hs_trees.specs.declared.types.ATypeTree.{ATypeTree, ATypeTree-F, out-ATypeTree, roll-ATypeTree, roll-out-ATypeTree, fold-roll-ATypeTree, map-ATypeTree}
-use Rattle.hs_trees.specs.declared.types.ATypeTree.TheVariants as a
-use Rattle.hs_trees.specs.declared.types.BTypeTree.{BTypeTree, BTypeTree-F, out-BTypeTree, roll-BTypeTree, roll-out-BTypeTree, fold-roll-BTypeTree, map-BTypeTree}
-use Rattle.hs_trees.specs.declared.types.TypeTree.{TypeTree, TypeTree-F, out-TypeTree, roll-TypeTree, roll-out-TypeTree, fold-roll-TypeTree, map-TypeTree}
+use Rattle.hs_trees.specs.declared.types.BTypeTree.{BTypeTree, BTypeTree-F, out-BTypeTree, roll-BTypeTree, roll-out-BTypeTree, fold-roll-BTypeTree}
+use Rattle.hs_trees.specs.declared.types.TypeTree.{TypeTree, TypeTree-F, out-TypeTree, roll-TypeTree, roll-out-TypeTree, fold-roll-TypeTree}
 use Rattle.hs_trees.proofs.Forms.{begins_append}
 
 abbrev pub ALayer : Type 0
@@ -86,10 +83,10 @@ pub btype_starts : (x : BTypeTree) → begins starts_atype (spelling_btype x) �
 btype_starts x =
     subst (λ y. begins starts_atype (spelling_btype y) ≡ true) (roll-out-BTypeTree x)
     (ap (begins starts_atype) (btype_spelled (out-BTypeTree x))
-      ∙ begins_append starts_atype (spelling_atype (out-BTypeTree x).first) _ (atype_starts (out-BTypeTree x).first))
+    ∙ begins_append starts_atype (spelling_atype (out-BTypeTree x).first) _ (atype_starts (out-BTypeTree x).first))
 
 pub type_starts : (x : TypeTree) → begins starts_atype (spelling_type x) ≡ true
 type_starts x =
     subst (λ y. begins starts_atype (spelling_type y) ≡ true) (roll-out-TypeTree x)
     (ap (begins starts_atype) (type_spelled (out-TypeTree x))
-      ∙ begins_append starts_atype (spelling_btype (out-TypeTree x).first) _ (btype_starts (out-TypeTree x).first))
+    ∙ begins_append starts_atype (spelling_btype (out-TypeTree x).first) _ (btype_starts (out-TypeTree x).first))

@@ -1,11 +1,11 @@
 -- The returns of the readers of types, over plain variables.
-use Rattle.std.proofs.Common.{◌≡◌, ℕ, zero, suc, ◌+◌, ◌<◌, ◌≤◌, Bool, true, false, List, [], ◌∷◌, ◌++◌, length, refl, sym, ap, ◌∙◌, subst, append_assoc, true≢false, arith, length-append}
+use Rattle.std.proofs.Common.{◌≡◌, ℕ, ◌+◌, ◌<◌, Bool, true, false, List, [], ◌∷◌, ◌++◌, length, refl, sym, ap, ◌∙◌, subst, append_assoc, arith}
 use Rattle.std.proofs.lemmas.Bool.Decides.{nat_tests}
 use Rattle.hs_trees.proofs.Limits.{and_left}
-use Rattle.std.specs.Prelude.{flat_map, map, max, ◌||◌, nat_lt, replicate, Option, Some, None}
-use Rattle.hs_trees.specs.Reading.{Form, begins, Reads, Refuses}
+use Rattle.std.specs.Prelude.{map, max, nat_lt, Option}
+use Rattle.hs_trees.specs.Reading.{begins, Reads}
 use Rattle.hs_trees.specs.Answers.{Within, lowered, Accepts, Rejects, Fails, deepest}
-use Rattle.hs_trees.specs.Types.{starts_atype, spelling_atype, spelling_btype, spelling_type, depth_of_atype, depth_of_btype, depth_of_type, depth_of_parts, Parts, atype_form, btype_form, type_form, parts_form, tuple_name_form}
+use Rattle.hs_trees.specs.Types.{starts_atype, spelling_atype, spelling_type, depth_of_atype, depth_of_btype, depth_of_type, depth_of_parts, Parts, atype_form, btype_form, type_form, parts_form, tuple_name_form}
 use Rattle.hs_trees.specs.Terminals.{is_arrow, is_comma, is_right_paren, is_right_bracket}
 use Rattle.hs_trees.specs.declared.terminal.Terminal.{Terminal}
 use Rattle.hs_trees.specs.declared.terminal.Terminal.TheVariants as t
@@ -87,7 +87,7 @@ module _ (limit : Option ℕ) where
       let r' = subst (λ l. Fails (btype_form l) next e) same r in
       state_fails (type_chain limit) ts h xs here d e s (ap (begins is_arrow) at) (room_at ts h xs here d s within)
       (fails_after (behind t.Arrow (btype_form (lowered limit (length xs + 1)))) (btype_form (lowered limit (length xs + 1))) (t.Arrow ∷ []) here next e at
-        (λ before bad split r''. refuses_behind t.Arrow (btype_form (lowered limit (length xs + 1))) before bad r'') r')
+      (λ before bad split r''. refuses_behind t.Arrow (btype_form (lowered limit (length xs + 1))) before bad r'') r')
 
   pub type_over : (ts : List Terminal) (h : BTypeTree) (xs : List BTypeTree) (here next : List Terminal) (d : ℕ) → TypeState limit ts h xs here d →
       here ≡ t.Arrow ∷ next → (Within limit (d + (length xs + 1)) → ⊥) → Rejects (type_form limit) ts (length here)
@@ -127,7 +127,7 @@ module _ (limit : Option ℕ) where
   parts_fails ts h xs here next d e s at few r =
       state_fails (parts_chain limit) ts h xs here d e s (ap (begins is_comma) at) few
       (fails_after (behind t.Comma (type_form limit)) (type_form limit) (t.Comma ∷ []) here next e at
-        (λ before bad split r'. refuses_behind t.Comma (type_form limit) before bad r') r)
+      (λ before bad split r'. refuses_behind t.Comma (type_form limit) before bad r') r)
 
   pub parts_over : (ts : List Terminal) (h : TypeTree) (xs : List TypeTree) (here next : List Terminal) (d : ℕ) → PartsState limit ts h xs here d →
       here ≡ t.Comma ∷ next → length xs ≡ 14 → Rejects (parts_form limit) ts (length here)
@@ -207,7 +207,11 @@ module _ (limit : Option ℕ) where
   pub paren_too_deep : (ts : List Terminal) → (Within limit 1 → ⊥) → begins ends_name ts ≡ false →
       Rejects (atype_form limit) (t.LeftParen ∷ ts) (length ts)
   paren_too_deep ts over ends = record {
-    before = t.LeftParen ∷ []; bad = ts; split = refl; left_is = refl; refuses = paren_over limit ts over ends;
+    before = t.LeftParen ∷ [];
+    bad = ts;
+    split = refl;
+    left_is = refl;
+    refuses = paren_over limit ts over ends;
   }
 
   pub inner_fails : (ts : List Terminal) (l : Option ℕ) (e : Fault) → Within limit 1 → l ≡ lowered limit 1 → begins ends_name ts ≡ false →
@@ -215,7 +219,7 @@ module _ (limit : Option ℕ) where
   inner_fails ts l e one same ends r =
       fails_after (atype_form limit) (parts_form (lowered limit 1)) (t.LeftParen ∷ []) (t.LeftParen ∷ ts) ts e refl
       (λ before bad split r'. parts_refused limit before bad one (ap (begins ends_name) (sym split) ∙ ends)
-        (refuses_closed (parts_form (lowered limit 1)) t.RightParen (λ x. refl) before bad r'))
+      (refuses_closed (parts_form (lowered limit 1)) t.RightParen (λ x. refl) before bad r'))
       (subst (λ l. Fails (parts_form l) ts e) same r)
 
   pub inner_ok : (ts : List Terminal) (l : Option ℕ) (first : TypeTree) (more : List TypeTree) (after rest : List Terminal) (d : ℕ) → Within limit 1 →
@@ -226,9 +230,9 @@ module _ (limit : Option ℕ) where
       let acc' = subst (λ l. Accepts (parts_form l) depth_of_parts ts p after d) same acc in
       record {
         spelled = ap (λ l. t.LeftParen ∷ l) (acc'.spelled ∙ ap (λ l. (parts_form limit).tokens p ++ l) at
-          ∙ sym (append_assoc ((parts_form limit).tokens p) (t.RightParen ∷ []) rest)) ∙ ap (λ l. l ++ rest) (sym (parts_spelled p));
+            ∙ sym (append_assoc ((parts_form limit).tokens p) (t.RightParen ∷ []) rest)) ∙ ap (λ l. l ++ rest) (sym (parts_spelled p));
         reads = parts_read limit p rest one (reads_closed (parts_form (lowered limit 1)) t.RightParen (λ x. refl) p rest
-          (subst (λ l. Reads (parts_form (lowered limit 1)) p l) at acc'.reads));
+            (subst (λ l. Reads (parts_form (lowered limit 1)) p l) at acc'.reads));
         measured_is = ap (λ n. n + 1) acc'.measured_is ∙ sym (parts_deep p);
         room = omega (arith, acc'.room, ap length at);
       }
@@ -245,7 +249,7 @@ module _ (limit : Option ℕ) where
         split = ap (λ l. t.LeftParen ∷ l) acc'.spelled;
         left_is = refl;
         refuses = parts_refused limit ((parts_form limit).tokens p) after one (ap (begins ends_name) (sym acc'.spelled) ∙ ends)
-          (closing_missed (parts_form (lowered limit 1)) t.RightParen (λ x. refl) is_right_paren refl p after acc'.reads missed);
+            (closing_missed (parts_form (lowered limit 1)) t.RightParen (λ x. refl) is_right_paren refl p after acc'.reads missed);
       }
 
   pub list_con_ok : (ts rest : List Terminal) → ts ≡ t.RightBracket ∷ rest →
@@ -260,7 +264,11 @@ module _ (limit : Option ℕ) where
   pub bracket_too_deep : (ts : List Terminal) → (Within limit 1 → ⊥) → begins is_right_bracket ts ≡ false →
       Rejects (atype_form limit) (t.LeftBracket ∷ ts) (length ts)
   bracket_too_deep ts over ends = record {
-    before = t.LeftBracket ∷ []; bad = ts; split = refl; left_is = refl; refuses = bracket_over limit ts over ends;
+    before = t.LeftBracket ∷ [];
+    bad = ts;
+    split = refl;
+    left_is = refl;
+    refuses = bracket_over limit ts over ends;
   }
 
   pub list_fails : (ts : List Terminal) (l : Option ℕ) (e : Fault) → Within limit 1 → l ≡ lowered limit 1 → begins is_right_bracket ts ≡ false →
@@ -268,7 +276,7 @@ module _ (limit : Option ℕ) where
   list_fails ts l e one same ends r =
       fails_after (atype_form limit) (type_form (lowered limit 1)) (t.LeftBracket ∷ []) (t.LeftBracket ∷ ts) ts e refl
       (λ before bad split r'. list_refused limit before bad one (ap (begins is_right_bracket) (sym split) ∙ ends)
-        (refuses_closed (type_form (lowered limit 1)) t.RightBracket (λ x. refl) before bad r'))
+      (refuses_closed (type_form (lowered limit 1)) t.RightBracket (λ x. refl) before bad r'))
       (subst (λ l. Fails (type_form l) ts e) same r)
 
   pub list_ok : (ts : List Terminal) (l : Option ℕ) (x : TypeTree) (after rest : List Terminal) (d : ℕ) → Within limit 1 →
@@ -278,9 +286,9 @@ module _ (limit : Option ℕ) where
       let acc' = subst (λ l. Accepts (type_form l) depth_of_type ts x after d) same acc in
       record {
         spelled = ap (λ l. t.LeftBracket ∷ l) (acc'.spelled ∙ ap (λ l. spelling_type x ++ l) at
-          ∙ sym (append_assoc (spelling_type x) (t.RightBracket ∷ []) rest)) ∙ ap (λ l. l ++ rest) (sym (list_spelled x));
+            ∙ sym (append_assoc (spelling_type x) (t.RightBracket ∷ []) rest)) ∙ ap (λ l. l ++ rest) (sym (list_spelled x));
         reads = list_read limit x rest one (reads_closed (type_form (lowered limit 1)) t.RightBracket (λ x. refl) x rest
-          (subst (λ l. Reads (type_form (lowered limit 1)) x l) at acc'.reads));
+            (subst (λ l. Reads (type_form (lowered limit 1)) x l) at acc'.reads));
         measured_is = ap (λ n. n + 1) acc'.measured_is ∙ sym (list_deep x);
         room = omega (arith, acc'.room, ap length at);
       }
@@ -296,7 +304,7 @@ module _ (limit : Option ℕ) where
         split = ap (λ l. t.LeftBracket ∷ l) acc'.spelled;
         left_is = refl;
         refuses = list_refused limit (spelling_type x) after one (ap (begins is_right_bracket) (sym acc'.spelled) ∙ ends)
-          (closing_missed (type_form (lowered limit 1)) t.RightBracket (λ x. refl) is_right_bracket refl x after acc'.reads missed);
+            (closing_missed (type_form (lowered limit 1)) t.RightBracket (λ x. refl) is_right_bracket refl x after acc'.reads missed);
       }
 
 pub empty_begins : (f : Terminal → Bool) (ts : List Terminal) → length ts ≡ 0 → begins f ts ≡ false

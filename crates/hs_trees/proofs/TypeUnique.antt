@@ -1,11 +1,8 @@
 -- At most one type is spelled by a list of tokens, whatever its depth.
-use Rattle.std.proofs.Common.{◌≡◌, ℕ, zero, suc, ◌+◌, ◌<◌, ◌≤◌, Bool, true, false, List, [], ◌∷◌, ◌++◌, length, refl, sym, ap, ◌∙◌, subst, append_assoc, true≢false, arith, length-append, le_refl}
-use Rattle.std.specs.Prelude.{flat_map, map, ◌&&◌, ◌||◌, nat_lt, Option, Some, None}
+use Rattle.std.proofs.Common.{◌≡◌, ℕ, zero, suc, ◌+◌, ◌<◌, ◌≤◌, true, false, List, [], ◌∷◌, ◌++◌, length, refl, sym, ap, ◌∙◌, subst, arith, length-append, le_refl}
+use Rattle.std.specs.Prelude.{flat_map, ◌||◌, nat_lt, None}
 use Rattle.std.proofs.lemmas.Bool.Decides.{nat_tests}
-use Rattle.std.proofs.lemmas.List.{append-nil}
-use Rattle.std.proofs.lemmas.Grind.{flat_map-append}
-use Rattle.hs_trees.specs.Reading.{Form, begins, Reads}
-use Rattle.hs_trees.specs.Answers.{Within, all_of}
+use Rattle.hs_trees.specs.Reading.{begins, Reads}
 use Rattle.hs_trees.specs.Whole.{Spells}
 use Rattle.hs_trees.specs.Types.{starts_atype, spelling_atype, spelling_btype, spelling_type, is_atype, is_btype, is_type, Parts, spelling_parts, are_parts, atype_form, btype_form, type_form, parts_form}
 use Rattle.hs_trees.specs.Terminals.{is_arrow, is_comma}
@@ -16,7 +13,7 @@ use Rattle.hs_trees.specs.declared.types.ATypeTree.TheVariants as a
 use Rattle.hs_trees.specs.declared.types.BTypeTree.{BTypeTree, out-BTypeTree, roll-BTypeTree, roll-out-BTypeTree}
 use Rattle.hs_trees.specs.declared.types.TypeTree.{TypeTree, out-TypeTree, roll-TypeTree, roll-out-TypeTree}
 use Rattle.hs_trees.proofs.Forms.{reads_behind, reads_closed}
-use Rattle.hs_trees.proofs.Limits.{and_left, and_right, and_both, all_here}
+use Rattle.hs_trees.proofs.Limits.{and_left, and_right, and_both}
 use Rattle.hs_trees.proofs.TypeLayers.{ALayer, BLayer, Layer, atype_is, atype_starts, btype_spelled, btype_is, type_spelled, type_is}
 use Rattle.hs_trees.proofs.TypeCases.{parts_spelled, parts_are, list_spelled, list_is, con_read, var_read}
 use Rattle.hs_trees.proofs.TypeBrackets.{unit_read, arrow_read, tuple_read, parts_read, list_con_read, list_read}
@@ -56,11 +53,11 @@ module _ (n : ℕ) (below : Upto n) where
       begins starts_atype rest ≡ false → Reads (btype_form None) (roll-BTypeTree l) rest
   btype_of l short is rest q =
       let len : length (spelling_atype l.first) + length (flat_map spelling_atype l.rest) ≤ n =
-          omega (arith, ap length (btype_spelled l), length-append (spelling_atype l.first) (flat_map spelling_atype l.rest)) in
+      omega (arith, ap length (btype_spelled l), length-append (spelling_atype l.first) (flat_map spelling_atype l.rest)) in
       chain_all (btype_chain None) btype_less l.first l.rest rest (is, tt) q
       (λ here quiet. below l.first (omega arith) (and_left (is_atype l.first) _ (sym (btype_is l) ∙ is)) here)
       (λ ys x zs e k good here quiet.
-        let part = part_length spelling_atype l.rest ys zs x e in below x (omega arith) good.0 here)
+      let part = part_length spelling_atype l.rest ys zs x e in below x (omega arith) good.0 here)
 
   btype_all : (x : BTypeTree) → length (spelling_btype x) ≤ n → is_btype x ≡ true → (rest : List Terminal) →
       begins starts_atype rest ≡ false → Reads (btype_form None) x rest
@@ -72,12 +69,12 @@ module _ (n : ℕ) (below : Upto n) where
       begins (λ k. starts_atype k || is_arrow k) rest ≡ false → Reads (type_form None) (roll-TypeTree l) rest
   type_of l short is rest q =
       let len : length (spelling_btype l.first) + length (flat_map arrow_items l.rest) ≤ n =
-          omega (arith, ap length (type_spelled l), length-append (spelling_btype l.first) (flat_map arrow_items l.rest)) in
+      omega (arith, ap length (type_spelled l), length-append (spelling_btype l.first) (flat_map arrow_items l.rest)) in
       chain_all (type_chain None) type_less l.first l.rest rest (is, tt) q
       (λ here quiet. btype_all l.first (omega arith) (and_left (is_btype l.first) _ (sym (type_is l) ∙ is)) here quiet)
       (λ ys x zs e k good here quiet.
-        let part = part_length arrow_items l.rest ys zs x e in
-        reads_behind t.Arrow (btype_form None) x here (btype_all x (omega arith) good.0 here quiet))
+      let part = part_length arrow_items l.rest ys zs x e in
+      reads_behind t.Arrow (btype_form None) x here (btype_all x (omega arith) good.0 here quiet))
 
   pub type_all : (x : TypeTree) → length (spelling_type x) ≤ n → is_type x ≡ true → (rest : List Terminal) →
       begins (λ k. starts_atype k || is_arrow k) rest ≡ false → Reads (type_form None) x rest
@@ -93,8 +90,8 @@ module _ (n : ℕ) (below : Upto n) where
       chain_all (parts_chain None) parts_less p.0 p.1 rest (is, tt) q
       (λ here quiet. type_all p.0 (omega arith) (and_left (is_type p.0) _ both) here quiet)
       (λ ys x zs e k good here quiet.
-        let part = part_length comma_items p.1 ys zs x e in
-        reads_behind t.Comma (type_form None) x here (type_all x (omega arith) good.0 here quiet))
+      let part = part_length comma_items p.1 ys zs x e in
+      reads_behind t.Comma (type_form None) x here (type_all x (omega arith) good.0 here quiet))
 
   atype_of : (l : ALayer) → length (spelling_atype (roll-ATypeTree l)) ≤ suc n → is_atype (roll-ATypeTree l) ≡ true → (rest : List Terminal) →
       Reads (atype_form None) (roll-ATypeTree l) rest
@@ -113,13 +110,13 @@ module _ (n : ℕ) (below : Upto n) where
       let p : Parts = (x, y) in
       let good = sym (parts_are p) ∙ ap is_atype (sym (a.rolls-Parts x y)) ∙ is in
       let len : length (spelling_parts p) ≤ n =
-          omega (arith, ap (λ o. length (spelling_atype o)) (a.rolls-Parts x y), ap length (parts_spelled p), length-append (spelling_parts p) (t.RightParen ∷ [])) in
+      omega (arith, ap (λ o. length (spelling_atype o)) (a.rolls-Parts x y), ap length (parts_spelled p), length-append (spelling_parts p) (t.RightParen ∷ [])) in
       subst (λ o. Reads (atype_form None) o rest) (sym (a.rolls-Parts x y))
       (parts_read None p rest tt (reads_closed (parts_form None) t.RightParen (λ x. refl) p rest (parts_all p len good (t.RightParen ∷ rest) refl)))
   atype_of (ATypeTree-F.List x) short is rest =
       let good = sym (list_is x) ∙ ap is_atype (sym (a.rolls-List x)) ∙ is in
       let len : length (spelling_type x) ≤ n =
-          omega (arith, ap (λ o. length (spelling_atype o)) (a.rolls-List x), ap length (list_spelled x), length-append (spelling_type x) (t.RightBracket ∷ [])) in
+      omega (arith, ap (λ o. length (spelling_atype o)) (a.rolls-List x), ap length (list_spelled x), length-append (spelling_type x) (t.RightBracket ∷ [])) in
       subst (λ o. Reads (atype_form None) o rest) (sym (a.rolls-List x))
       (list_read None x rest tt (reads_closed (type_form None) t.RightBracket (λ x. refl) x rest (type_all x len good (t.RightBracket ∷ rest) refl)))
 

@@ -1,15 +1,15 @@
 -- From a reading at the front to the answer over all the tokens.
-use Rattle.std.proofs.Common.{◌≡◌, ℕ, zero, suc, ◌+◌, ◌<◌, ◌≤◌, Bool, true, false, List, [], ◌∷◌, ◌++◌, length, take, drop, refl, sym, ap, ◌∙◌, subst, append_assoc, true≢false, arith, length-append, length-take}
+use Rattle.std.proofs.Common.{◌≡◌, ℕ, zero, suc, ◌+◌, ◌<◌, Bool, true, false, List, [], ◌∷◌, ◌++◌, length, take, drop, refl, sym, ap, ◌∙◌, subst, append_assoc, true≢false, arith, length-append}
 use Rattle.std.proofs.lemmas.List.{append-nil, take-append-drop, take-append-le}
 use Rattle.std.proofs.Math.Seq.{take-append-add, take-append_seam}
-use Rattle.hs_trees.specs.Reading.{Form, SameStart, begins, Reads, Refuses}
+use Rattle.hs_trees.specs.Reading.{Form, SameStart}
 use Rattle.hs_trees.specs.Answers.{Accepts, Rejects, Fails}
 use Rattle.hs_trees.specs.Whole.{Spells, Begins, IsPlace, IsWhole}
 use Rattle.hs_trees.specs.declared.fault.Fault.{Fault}
 use Rattle.hs_trees.specs.declared.fault.Fault.TheVariants as f
 use Rattle.hs_trees.proofs.Forms.{same_start_self}
 use Rattle.std.proofs.lemmas.Bool.Decides.{nat_tests}
-use Rattle.std.specs.Prelude.{Result, Ok, Err, ◌↔◌, IsTrue, nat_eq}
+use Rattle.std.specs.Prelude.{Err, ◌↔◌, IsTrue, nat_eq}
 
 module _ {K T : Type 0} (form : Form K T) where
   pub begins_less : (xs ys : List K) → Begins form (xs ++ ys) → Begins form xs
@@ -34,13 +34,15 @@ module _ {K T : Type 0} (form : Form K T) where
       at_bad (b ∷ bad) split never lt (more, tree, spelled) =
           never (b ∷ more) tree (more, refl) spelled.1
           (sym (append_assoc before (b ∷ []) more)
-            ∙ ap (λ l. l ++ more) (sym (ap (take (length before + 1)) split ∙ take-append-add before (b ∷ bad) 1)) ∙ spelled.0)
+          ∙ ap (λ l. l ++ more) (sym (ap (take (length before + 1)) split ∙ take-append-add before (b ∷ bad) 1)) ∙ spelled.0)
 
   pub place_of_rejects : (ts : List K) (left : ℕ) → Rejects form ts left → (i : ℕ) × (i + left ≡ length ts) × IsPlace form ts i
-  place_of_rejects ts left r =
-      (length r.before, omega (arith, r.left_is, ap length r.split, length-append r.before r.bad),
-        place ts r.before r.bad r.split (r.refuses.begun.0, r.refuses.begun.1, (r.refuses.begun.3, r.refuses.begun.2))
-        (λ s tree same good e. r.refuses.never s tree [] same good refl (e ∙ sym (append-nil (form.tokens tree)))))
+  place_of_rejects ts left r = (
+    length r.before,
+    omega (arith, r.left_is, ap length r.split, length-append r.before r.bad),
+    place ts r.before r.bad r.split (r.refuses.begun.0, r.refuses.begun.1, (r.refuses.begun.3, r.refuses.begun.2))
+        (λ s tree same good e. r.refuses.never s tree [] same good refl (e ∙ sym (append-nil (form.tokens tree)))),
+  )
 
   pub whole_of_fails : (ts : List K) (e : Fault) → Fails form ts e → IsWhole form ts (Err e)
   whole_of_fails ts (f.At left) r = place_of_rejects ts left r
@@ -57,11 +59,13 @@ module _ {K T : Type 0} (form : Form K T) where
 
   pub whole_of_rest : (depth : T → ℕ) (ts : List K) (tree : T) (rest : List K) (d : ℕ) → Accepts form depth ts tree rest d →
       0 < length rest → (i : ℕ) × (i + length rest ≡ length ts) × IsPlace form ts i
-  whole_of_rest depth ts tree rest d acc some =
-      (length (form.tokens tree), omega (arith, ap length acc.spelled, length-append (form.tokens tree) rest),
-        place ts (form.tokens tree) rest acc.spelled ([], tree, (append-nil (form.tokens tree), acc.reads.good))
+  whole_of_rest depth ts tree rest d acc some = (
+    length (form.tokens tree),
+    omega (arith, ap length acc.spelled, length-append (form.tokens tree) rest),
+    place ts (form.tokens tree) rest acc.spelled ([], tree, (append-nil (form.tokens tree), acc.reads.good))
         (λ s other same good e.
-          no_rest tree other rest s some same (acc.reads.only s other [] same good refl (e ∙ sym (append-nil (form.tokens other)))).1))
+        no_rest tree other rest s some same (acc.reads.only s other [] same good refl (e ∙ sym (append-nil (form.tokens other)))).1),
+  )
 
   -- where the tokens begin a tree
   pub begun_if_whole : (ts : List K) (tree : T) → Spells form tree ts → Begins form ts

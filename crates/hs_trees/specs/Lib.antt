@@ -4,3 +4,5 @@ pub mod Whole
 pub mod Terminals
 pub mod Types
 pub mod Patterns
+pub mod Kinds
+pub mod Hits

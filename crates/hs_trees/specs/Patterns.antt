@@ -1,8 +1,8 @@
 -- The grammar of patterns (Haskell 2010 Report, section 3.17.1): the tokens of a tree, how deep it is, and which trees there are.
-use Rattle.std.specs.Prelude.{◌≡◌, ℕ, ◌+◌, ◌<◌, max, Bool, true, false, not, ◌&&◌, ◌||◌, nat_lt, List, [], ◌∷◌, ◌++◌, length, flat_map, map, replicate, Option, Some, None}
+use Rattle.std.specs.Prelude.{◌≡◌, ℕ, ◌+◌, max, Bool, true, false, not, ◌&&◌, ◌||◌, nat_lt, List, [], ◌∷◌, ◌++◌, length, flat_map, map, replicate, Option}
 use Rattle.std.specs.Str.{bytes_eq}
 use Rattle.hs_trees.specs.Reading.{Form, begins}
-use Rattle.hs_trees.specs.Answers.{Within, lowered, deepest, all_of}
+use Rattle.hs_trees.specs.Answers.{Within, deepest, all_of}
 use Rattle.hs_trees.specs.Terminals.{is_at, is_comma, is_minus, starts_qconop, minus}
 use Rattle.hs_trees.specs.declared.terminal.Terminal.{Terminal}
 use Rattle.hs_trees.specs.declared.terminal.Terminal.TheVariants as t

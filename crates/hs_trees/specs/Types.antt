@@ -1,7 +1,7 @@
 -- The grammar of types: which tokens a tree stands for, how deep it is, and which trees there are.
-use Rattle.std.specs.Prelude.{◌≡◌, ℕ, ◌+◌, ◌≤◌, ◌<◌, max, Bool, true, false, ◌&&◌, ◌||◌, nat_lt, List, [], ◌∷◌, ◌++◌, length, flat_map, replicate, map, Option, Some, None}
+use Rattle.std.specs.Prelude.{◌≡◌, ℕ, ◌+◌, ◌<◌, max, Bool, true, false, ◌&&◌, ◌||◌, nat_lt, List, [], ◌∷◌, ◌++◌, length, flat_map, replicate, map, Option}
 use Rattle.hs_trees.specs.Reading.{Form}
-use Rattle.hs_trees.specs.Answers.{Within, lowered, deepest, all_of}
+use Rattle.hs_trees.specs.Answers.{Within, deepest, all_of}
 use Rattle.hs_trees.specs.Terminals.{is_arrow, is_comma}
 use Rattle.hs_trees.specs.declared.terminal.Terminal.{Terminal}
 use Rattle.hs_trees.specs.declared.terminal.Terminal.TheVariants as t

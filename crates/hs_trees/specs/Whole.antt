@@ -1,5 +1,5 @@
 -- What it means that all the tokens spell a tree, and where they stop to begin one.
-use Rattle.std.specs.Prelude.{◌≡◌, ℕ, ◌+◌, ◌≤◌, ◌<◌, List, [], ◌∷◌, ◌++◌, length, take, Result, Ok, Err}
+use Rattle.std.specs.Prelude.{◌≡◌, ℕ, ◌+◌, ◌≤◌, ◌<◌, List, ◌++◌, length, take, Result, Ok, Err}
 use Rattle.hs_trees.specs.Reading.{Form}
 use Rattle.hs_trees.specs.declared.fault.Fault.{Fault}
 use Rattle.hs_trees.specs.declared.fault.Fault.TheVariants as f

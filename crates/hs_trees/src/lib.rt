@@ -9,9 +9,11 @@ mod types;
 
 pub use error::ParseError;
 pub use fault::Fault;
-pub use types::{AKindTree, ATypeTree, BTypeTree, KindTree, TypeTree};
-pub use patterns::{APatTree, GConTree, LPatTree, LiteralTree, OpLPat, PatTree, QConOpTree, VarTree};
+pub use patterns::{
+    APatTree, GConTree, LPatTree, LiteralTree, OpLPat, PatTree, QConOpTree, VarTree,
+};
 pub use terminal::{Terminal, Terminals, terminal_of, terminals_of};
+pub use types::{AKindTree, ATypeTree, BTypeTree, KindTree, TypeTree};
 
 #[cfg(test)]
 mod tests;
