@@ -52,7 +52,8 @@ pub fn begins_atype(tokens: &[Terminal]) -> bool
     ensures { result ≡ begins starts_atype tokens.now }
 {
     match tokens.first() {
-        Some(Terminal::Con(_) | Terminal::Var(_) | Terminal::LeftParen | Terminal::LeftBracket) => true,
+        Some(Terminal::Con(_) | Terminal::Var(_) | Terminal::LeftParen | Terminal::LeftBracket) =>
+            true,
         _ => false,
     }
 }

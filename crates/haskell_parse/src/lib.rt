@@ -4,10 +4,11 @@
 
 mod leaf;
 mod limit;
-mod names;
 mod parse_types;
-mod patterns;
 mod tuple_name;
 mod types;
 
 pub use parse_types::{one_type, parse_type};
+
+#[cfg(test)]
+mod tests;

@@ -14,11 +14,7 @@ use hs_trees::{Fault, ParseError, Terminal, TypeTree, terminals_of};
 use std::alloc::Global;
 
 /// The type that all the terminals spell, within the limit.
-fn whole_type(
-    alloc: Global,
-    tokens: &[Terminal],
-    limit: Option<usize>,
-) -> Result<TypeTree, Fault>
+fn whole_type(alloc: Global, tokens: &[Terminal], limit: Option<usize>) -> Result<TypeTree, Fault>
     ensures { IsWhole (type_form limit) tokens.now result }
 {
     let (tree, rest, _) = read_type(alloc, tokens, limit)?;
@@ -71,5 +67,4 @@ pub fn parse_type(alloc: Global, tokens: &Tokens) -> Result<TypeTree, ParseError
 /// No two types have one spelling, whatever their depth.
 pub fn one_type()
     ensures { (tokens : List Terminal) (one other : TypeTree) → Spells (type_form None) one tokens → Spells (type_form None) other tokens → other ≡ one }
-{
-}
+{}

@@ -105,56 +105,11 @@ fn types_and_their_refusals(rt: HostRuntime) -> Result<(), Fail> {
         (201, "a ->", "a", "", Answer::Deep(401)),
     ] {
         let tokens = nested(alloc, times, front, middle, back)?;
-        assert_eq!(rt; answer_of(parse_type(alloc, &tokens)), want, "at {times} of {front}");
-    }
-    Ok(())
-}
-
-#[test]
-fn patterns_and_their_refusals(rt: HostRuntime) -> Result<(), Fail> {
-    let alloc = rt.alloc();
-    for (text, want) in [
-        ("x : xs", Answer::Tree),
-        ("->", Answer::Syntax(0)),
-        ("", Answer::Syntax(0)),
-        ("C ( ) [ ] 'c' \"s\" 0x1F _ ( D y )", Answer::Tree),
-        ("x @ ( y , ~ z )", Answer::Tree),
-        ("x y", Answer::Syntax(1)),
-        ("x @", Answer::Syntax(2)),
-        ("( ) @ x", Answer::Syntax(2)),
-        ("- 1 : x", Answer::Tree),
-        ("- x", Answer::Syntax(1)),
-        ("( - 1 , [ x , y ] )", Answer::Tree),
-        ("( - ) @ ( + )", Answer::Tree),
-        ("( - x", Answer::Syntax(2)),
-        ("( + x", Answer::Syntax(2)),
-        ("( :+ ) x ( : )", Answer::Tree),
-        ("( : x", Answer::Syntax(2)),
-        ("x ` M.D ` y :+ z", Answer::Tree),
-        ("x ` f ` y", Answer::Syntax(2)),
-        ("x ` D y", Answer::Syntax(3)),
-        ("[ x ,", Answer::Syntax(3)),
-        ("M.x", Answer::Syntax(0)),
-        ("x <- y", Answer::Syntax(1)),
-    ] {
-        let tokens = nested(alloc, 1, text, "", "")?;
-        assert_eq!(rt; answer_of(parse_pat(alloc, &tokens)), want, "at {text}");
-    }
-    for (times, front, middle, back, want) in [
-        (200, "(", "x", ")", Answer::Tree),
-        (201, "(", "x", ")", Answer::Deep(201)),
-        (201, "(", "- 1", ")", Answer::Deep(202)),
-        (200, "[", "x", "]", Answer::Tree),
-        (201, "[", "x", "]", Answer::Deep(201)),
-        (200, "x @", "y", "", Answer::Tree),
-        (201, "x @", "y", "", Answer::Deep(401)),
-        (200, "~", "y", "", Answer::Tree),
-        (201, "~", "y", "", Answer::Deep(200)),
-        (200, "x :", "y", "", Answer::Tree),
-        (201, "x :", "y", "", Answer::Deep(401)),
-    ] {
-        let tokens = nested(alloc, times, front, middle, back)?;
-        assert_eq!(rt; answer_of(parse_pat(alloc, &tokens)), want, "at {times} of {front}");
+        assert_eq!(rt;
+            answer_of(parse_type(alloc, &tokens)),
+            want,
+            "at {times} of {front}"
+        );
     }
     Ok(())
 }
@@ -179,8 +134,11 @@ fn tuples_have_at_most_15_parts(rt: HostRuntime) -> Result<(), Fail> {
         (15, Answer::Syntax(30)),
     ] {
         let tokens = tuple(alloc, commas)?;
-        assert_eq!(rt; answer_of(parse_type(alloc, &tokens)), want, "a type of {commas}");
-        assert_eq!(rt; answer_of(parse_pat(alloc, &tokens)), want, "a pattern of {commas}");
+        assert_eq!(rt;
+            answer_of(parse_type(alloc, &tokens)),
+            want,
+            "a type of {commas}"
+        );
     }
     Ok(())
 }

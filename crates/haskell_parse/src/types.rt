@@ -73,8 +73,16 @@ fn read_atype<'a>(
         return Err(Fault::At(0));
     };
     match first {
-        Terminal::Con(name) => Ok((ATypeTree::Con(Name::from_bytes(alloc, name.as_bytes())?), rest, 0)),
-        Terminal::Var(name) => Ok((ATypeTree::Var(Name::from_bytes(alloc, name.as_bytes())?), rest, 0)),
+        Terminal::Con(name) => Ok((
+            ATypeTree::Con(Name::from_bytes(alloc, name.as_bytes())?),
+            rest,
+            0,
+        )),
+        Terminal::Var(name) => Ok((
+            ATypeTree::Var(Name::from_bytes(alloc, name.as_bytes())?),
+            rest,
+            0,
+        )),
         Terminal::LeftParen => read_paren(alloc, rest, limit),
         Terminal::LeftBracket => read_bracket(alloc, rest, limit),
         _ => Err(Fault::At(tokens.len())),

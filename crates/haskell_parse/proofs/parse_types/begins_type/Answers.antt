@@ -7,7 +7,7 @@ use Rattle.haskell_parse.proofs.parse_types.begins_type.Goals.{in-Ok, in-Err-At,
 pub returns : goal.returns
 returns c =
     elim c.match-whole_type.branch [
-      in-Ok w ↦ rw w.result-is (begun_ok (type_form None) c.args.tokens.now _ w.in-Ok.ensures)
+      | in-Ok w ↦ rw w.result-is (begun_ok (type_form None) c.args.tokens.now _ w.in-Ok.ensures)
       | in-Err-At w ↦ rw w.result-is (begun_err_at (type_form None) c.args.tokens.now _ _ w.in-Err-At.field-0-is w.in-Err-At.ensures)
       | in-Err-NoMemory w ↦ rw w.result-is refl
     ]

@@ -11,5 +11,5 @@ returns-in_err-tree c =
 
 pub returns-else-is_empty : goal.returns-else-is_empty
 returns-else-is_empty c =
-    whole_of_rest (type_form c.args.limit) depth_of_type c.args.tokens.now c.in_ok-tree.tree c.in_ok-tree.rest.now _ c.in_ok-tree.ensures 
+    whole_of_rest (type_form c.args.limit) depth_of_type c.args.tokens.now c.in_ok-tree.tree c.in_ok-tree.rest.now _ c.in_ok-tree.ensures
     (some_length c.is_empty.result c.in_ok-tree.rest.now c.is_empty.ensures c.if-is_empty.false)

@@ -16,7 +16,7 @@ pub read_atype-returns-in_default-first : goal.read_atype-returns-in_default-fir
 read_atype-returns-in_default-first t c =
     none_here c.args.limit c.args.tokens.now
     (ap (begins starts_atype) c.in-Some.ensures.cases.0
-      ∙ no_start c.in-Some.first.now c.in_default-first.not-Con c.in_default-first.not-Var c.in_default-first.not-LeftParen c.in_default-first.not-LeftBracket)
+    ∙ no_start c.in-Some.first.now c.in_default-first.not-Con c.in_default-first.not-Var c.in_default-first.not-LeftParen c.in_default-first.not-LeftBracket)
 
 pub read_bracket-returns-then-not-allows : goal.read_bracket-returns-then-not-allows
 read_bracket-returns-then-not-allows t c =
@@ -32,7 +32,7 @@ pub read_bracket-returns-in_ok-inner-in-Some-after_right_bracket :
 read_bracket-returns-in_ok-inner-in-Some-after_right_bracket t c =
     rw c.in_ok-inner-in-Some-after_right_bracket.ensures
     (list_ok c.args.limit c.args.tokens.now _ c.in_ok-inner.inner _ _ _ (c.allows.ensures.0 c.if-not-allows.false) c.lower.ensures c.in_ok-inner.ensures
-      c.in-Some-after_right_bracket.ensures)
+    c.in-Some-after_right_bracket.ensures)
 
 pub read_bracket-returns-in-None : goal.read_bracket-returns-in-None
 read_bracket-returns-in-None t c =
@@ -92,14 +92,14 @@ pub read_paren-returns-in_err-first : goal.read_paren-returns-in_err-first
 read_paren-returns-in_err-first t c =
     let p = err_from_is_err_and c.from_residual-in_err-first.result c.from_residual-in_err-first.ensures.1 in
     rw (p.1, p.2) (inner_fails c.args.limit c.args.tokens.now _ _ (c.allows.ensures.0 c.if-not-allows.false) c.lower.ensures
-      (ends_none c.args.tokens.now c.in_default.ensures c.in_default-after_arrow.ensures c.in_default-after_comma.ensures) c.in_err-first.ensures)
+    (ends_none c.args.tokens.now c.in_default.ensures c.in_default-after_arrow.ensures c.in_default-after_comma.ensures) c.in_err-first.ensures)
 
 pub read_paren-returns-in_ok-first-in-Some-after_right_paren-2 :
     goal.read_paren-returns-in_ok-first-in-Some-after_right_paren-2
 read_paren-returns-in_ok-first-in-Some-after_right_paren-2 t c =
     rw c.in_ok-first-in-Some-after_right_paren-2.ensures
     (inner_ok c.args.limit c.args.tokens.now _ c.in_ok-first.first c.in_ok-first.more _ _ _ (c.allows.ensures.0 c.if-not-allows.false) c.lower.ensures
-      c.in_ok-first.ensures c.in-Some-after_right_paren-2.ensures)
+    c.in_ok-first.ensures c.in-Some-after_right_paren-2.ensures)
 
 pub read_paren-returns-in-None-after_right_paren :
     goal.read_paren-returns-in-None-after_right_paren

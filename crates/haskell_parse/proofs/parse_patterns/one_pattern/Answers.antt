@@ -1,5 +1,0 @@
-use Rattle.hs_trees.proofs.PatternUnique.{one_pattern}
-use Rattle.haskell_parse.proofs.parse_patterns.one_pattern.Goals as goal
-
-pub returns : goal.returns
-returns c = λ tokens one other first second. one_pattern tokens one other first second
