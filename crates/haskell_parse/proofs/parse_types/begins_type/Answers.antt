@@ -1,0 +1,13 @@
+use Rattle.std.proofs.Common.{◌≡◌, ℕ, ap, sym, arith, None, refl}
+use Rattle.hs_trees.specs.Types.{type_form}
+use Rattle.hs_trees.proofs.Whole.{begun_ok, begun_err_at}
+use Rattle.haskell_parse.proofs.parse_types.begins_type.Goals as goal
+use Rattle.haskell_parse.proofs.parse_types.begins_type.Goals.{in-Ok, in-Err-At, in-Err-NoMemory}
+
+pub returns : goal.returns
+returns c =
+    elim c.match-whole_type.branch [
+      | in-Ok w ↦ rw w.result-is (begun_ok (type_form None) c.args.tokens.now _ w.in-Ok.ensures)
+      | in-Err-At w ↦ rw w.result-is (begun_err_at (type_form None) c.args.tokens.now _ _ w.in-Err-At.field-0-is w.in-Err-At.ensures)
+      | in-Err-NoMemory w ↦ rw w.result-is refl
+    ]

@@ -1,0 +1,14 @@
+//! Readers of Haskell's grammar (Haskell 2010 Report, chapter 10): each public call answers the tree that all the tokens
+//! spell, or the least index at which they can spell none.
+#![tactic(auto)]
+
+mod leaf;
+mod limit;
+mod parse_types;
+mod tuple_name;
+mod types;
+
+pub use parse_types::{one_type, parse_type};
+
+#[cfg(test)]
+mod tests;

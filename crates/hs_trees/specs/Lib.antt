@@ -1,0 +1,8 @@
+pub mod Reading
+pub mod Answers
+pub mod Whole
+pub mod Terminals
+pub mod Types
+pub mod Patterns
+pub mod Kinds
+pub mod Hits

@@ -1,0 +1,19 @@
+//! Terminals of Haskell's grammar, surface trees, and what it means to read trees from the front of a list.
+#![tactic(auto)]
+
+mod error;
+mod fault;
+mod patterns;
+mod terminal;
+mod types;
+
+pub use error::ParseError;
+pub use fault::Fault;
+pub use patterns::{
+    APatTree, GConTree, LPatTree, LiteralTree, OpLPat, PatTree, QConOpTree, VarTree,
+};
+pub use terminal::{Terminal, Terminals, terminal_of, terminals_of};
+pub use types::{AKindTree, ATypeTree, BTypeTree, KindTree, TypeTree};
+
+#[cfg(test)]
+mod tests;
