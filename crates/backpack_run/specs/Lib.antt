@@ -1,0 +1,12 @@
+pub mod Answer
+pub mod Characters
+pub mod Lead
+pub mod Lexical
+pub mod OneOutcome
+pub mod Outcome
+pub mod Project
+pub mod Report
+pub mod Source
+pub mod Stages
+pub mod Stop
+pub mod Words
