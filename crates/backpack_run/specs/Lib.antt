@@ -1,10 +1,11 @@
 pub mod Answer
 pub mod Characters
+pub mod Given
 pub mod Lead
 pub mod Lexical
-pub mod OneOutcome
-pub mod Outcome
+pub mod Paths
 pub mod Project
+pub mod Refused
 pub mod Report
 pub mod Source
 pub mod Stages

@@ -1,33 +1,36 @@
--- The defects of each file in turn.
-use Rattle.std.specs.Prelude.{◌≡◌, ◌⊎◌, None, List, [], ℕ}
-use Rattle.bp_base.specs.declared.code.Code.TheVariants.{NoSource, ProjectSyntax, ComponentSyntax, Syntax}
-use Rattle.bp_base.specs.declared.defect.Item.TheVariants.{Offset, Line, Named}
+-- What the checks of a project are made of.
+use Rattle.std.specs.Prelude.{◌≡◌, ◌⊎◌, ℕ, ◌≤◌, ◌<◌, Some, None, List, length}
+use Rattle.bp_base.specs.Check.{Check}
+use Rattle.bp_base.specs.Texts.{Text}
+use Rattle.bp_base.specs.declared.code.Code.TheVariants.{NoSource}
+use Rattle.bp_base.specs.declared.defect.Item.TheVariants.{Named}
 use Rattle.bp_base.specs.declared.defect.Defect.{Defect}
 use Rattle.bp_edges.specs.declared.files.File.{File}
 use Rattle.bp_edges.specs.Files.{content_at}
-use Rattle.hs_core.specs.declared.PlainModule.{PlainModule}
-use Rattle.backpack_run.specs.Project.{IsProject, IsPackage}
-use Rattle.backpack_run.specs.Source.{Spells}
-use Rattle.backpack_run.specs.Outcome.{project_path, package_path, module_path, defect_at, IsMalformed}
+use Rattle.backpack_run.specs.Refused.{Refused, Wrong, Passed, defect_at, file_limit}
 
--- a file is absent, with this defect, or it hasn't the form, with that one
-abbrev pub FileDefect : List File → List ℕ → (List ℕ → Type 0) → Defect → Defect → Defect → Type 0
-FileDefect files path IsOfForm missing malformed d =
-    ((content_at files path ≡ None) × (d ≡ missing)) ⊎ (IsMalformed files path IsOfForm × (d ≡ malformed))
+-- the file is there with this content, and isn't too long
+pub record HasFile (files : List File) (path content : Text) : Type 0 where
+  pub there : content_at files path ≡ Some content
+  pub short : length content ≤ 1048576
 
--- the project file is absent or malformed
-abbrev pub ProjectDefect : List File → Defect → Type 0
-ProjectDefect files =
-    FileDefect files project_path (λ c. (name : List ℕ) × IsProject c name) (defect_at NoSource [] [] (Named project_path)) (defect_at ProjectSyntax [] [] (Line 1))
+-- the file is there, and longer than a file may be
+pub record IsTooLong (files : List File) (path : Text) : Type 0 where
+  pub content : Text
+  pub there : content_at files path ≡ Some content
+  pub long : 1048576 < length content
 
--- the package file is absent or malformed
-abbrev pub PackageDefect : List File → List ℕ → Defect → Type 0
-PackageDefect files name =
-    FileDefect files (package_path name) (λ c. (at : List ℕ) × IsPackage c name at) (defect_at NoSource [] [] (Named (package_path name)))
-    (defect_at ComponentSyntax (package_path name) [] (Line 1))
+-- The content of a file. Its absence is told with this component and module.
+abbrev pub file : List File → Text → Text → Text → Check Text Refused
+file files path component at = record {
+  passes = λ content. HasFile files path content;
+  fails = λ r. ((content_at files path ≡ None) × (r ≡ Wrong (defect_at NoSource component at (Named path)))) ⊎ (IsTooLong files path × (r ≡ Passed file_limit));
+}
 
--- the source is absent or malformed
-abbrev pub SourceDefect : List File → List ℕ → List ℕ → Defect → Type 0
-SourceDefect files name at =
-    FileDefect files (module_path name at) (λ c. (m : PlainModule) × (m.name ≡ at) × Spells m c)
-    (defect_at NoSource name at (Named (module_path name at))) (defect_at Syntax name at (Offset 0))
+-- what a text spells, by this form, or else this defect
+abbrev pub spelled : {B : Type 0} → (B → Type 0) → Defect → Check B Refused
+spelled {B} IsOfForm defect = record { passes = IsOfForm; fails = λ r. ((b : B) → IsOfForm b → ⊥) × (r ≡ Wrong defect) }
+
+-- where this holds, or else this defect
+abbrev pub needed : Type 0 → Defect → Check (Unit {0}) Refused
+needed P defect = record { passes = λ _. P; fails = λ r. (P → ⊥) × (r ≡ Wrong defect) }

@@ -2,7 +2,7 @@
 ghost use Rattle.std.specs.Prelude.{◌≡◌, [], IfOk};
 ghost use Rattle.bp_base.specs.declared.code.Code.TheVariants.{NoSource, ProjectSyntax, ComponentSyntax, NoComponent, Syntax};
 ghost use Rattle.bp_base.specs.declared.defect.Item.TheVariants.{Offset, Line, Named};
-ghost use Rattle.backpack_run.specs.Outcome.{defect_at};
+ghost use Rattle.backpack_run.specs.Refused.{defect_at};
 
 use bp_base::{Code, Defect, Item, Name, Path, Place};
 use std::alloc::{AllocError, Global};
