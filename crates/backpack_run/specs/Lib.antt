@@ -1,0 +1,5 @@
+pub mod Characters
+pub mod Lead
+pub mod Lexical
+pub mod Shape
+pub mod Source
