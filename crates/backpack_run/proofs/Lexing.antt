@@ -6,18 +6,17 @@ use Rattle.std.proofs.lemmas.Bool.Decides.{nat_tests}
 use Rattle.std.proofs.lemmas.Grind.{common_steps}
 use Rattle.std.proofs.lemmas.List.{take-append-drop}
 use Rattle.std.proofs.Math.Seq.{take-append_seam, drop-append_seam}
-use Rattle.bp_base.specs.Lists.{IsOnly}
-use Rattle.bp_base.specs.Lists.{SoFar}
+use Rattle.bp_base.specs.Lists.{IsOnly, SoFar}
 use Rattle.bp_base.proofs.Reading.{SoFar-step, SoFar-end, SoFar-none}
 use Rattle.bp_base.proofs.Texts.{same_texts}
 use Rattle.backpack_run.specs.Characters.{is_lower, is_upper, is_digit, is_word_char, is_blank, is_text}
 use Rattle.backpack_run.specs.Lexical.{starts_word, is_symbol, IsToken, Leads, skip_blanks, Lexes}
-use Rattle.backpack_run.specs.Lead.{word_len, colons_len, symbol_len, lead_len}
+use Rattle.backpack_run.specs.Lead.{word_len, pair_len, symbol_len, lead_len}
 
 -- the symbols are no letters or digits
-no_words : (is_word_char 123 ≡ false) × (is_word_char 125 ≡ false) × (is_word_char 59 ≡ false) × (is_word_char 58 ≡ false) × (is_word_char 61 ≡ false)
+no_words : (is_word_char 123 ≡ false) × (is_word_char 125 ≡ false) × (is_word_char 59 ≡ false) × (is_word_char 58 ≡ false) × (is_word_char 61 ≡ false) × (is_word_char 45 ≡ false)
 unfolding is_word_char is_lower is_upper is_digit
-no_words = (refl, refl, refl, refl, refl)
+no_words = (refl, refl, refl, refl, refl, refl)
 
 -- a run of letters and digits is as long as it is
 word_len-run : (text rest : List ℕ) → list_all is_word_char text ≡ true → starts_word rest ≡ false → word_len (text ++ rest) ≡ length text
@@ -68,17 +67,23 @@ type_len rest = rw no_words.3 refl
 equals_len : (rest : List ℕ) → lead_len (61 ∷ rest) ≡ 1
 equals_len rest = rw no_words.4 refl
 
+arrow_len : (rest : List ℕ) → lead_len (45 ∷ 62 ∷ rest) ≡ 2
+arrow_len rest = rw no_words.5 refl
+
 -- a symbol is as long as it is
 lead_len-symbol : (text rest : List ℕ) → is_symbol text ≡ true → lead_len (text ++ rest) ≡ length text
-lead_len-symbol text rest h = elim (or_cases (((a || b) || c) || d) e h) [
-  | inl h4 ↦ elim (or_cases ((a || b) || c) d h4) [
-    | inl h3 ↦ elim (or_cases (a || b) c h3) [
-      | inl h2 ↦ elim (or_cases a b h2) [ inl h1 ↦ at (codes "{") h1 (open_len rest) | inr h1 ↦ at (codes "}") h1 (close_len rest) ]
-      | inr h2 ↦ at (codes ";") h2 (semicolon_len rest)
+lead_len-symbol text rest h = elim (or_cases ((((a || b) || c) || d) || g) e h) [
+  | inl h5 ↦ elim (or_cases (((a || b) || c) || d) g h5) [
+    | inl h4 ↦ elim (or_cases ((a || b) || c) d h4) [
+      | inl h3 ↦ elim (or_cases (a || b) c h3) [
+        | inl h2 ↦ elim (or_cases a b h2) [ inl h1 ↦ at (codes "{") h1 (open_len rest) | inr h1 ↦ at (codes "}") h1 (close_len rest) ]
+        | inr h2 ↦ at (codes ";") h2 (semicolon_len rest)
+      ]
+      | inr h3 ↦ at (codes "::") h3 (type_len rest)
     ]
-    | inr h3 ↦ at (codes "::") h3 (type_len rest)
+    | inr h4 ↦ at (codes "->") h4 (arrow_len rest)
   ]
-  | inr h4 ↦ at (codes "=") h4 (equals_len rest)
+  | inr h5 ↦ at (codes "=") h5 (equals_len rest)
 ]
   where
     a : Bool
@@ -92,6 +97,9 @@ lead_len-symbol text rest h = elim (or_cases (((a || b) || c) || d) e h) [
 
     d : Bool
     d = is_text text (codes "::")
+
+    g : Bool
+    g = is_text text (codes "->")
 
     e : Bool
     e = is_text text (codes "=")

@@ -1,5 +1,7 @@
 pub mod Answer
+pub mod Arities
 pub mod Characters
+pub mod Counts
 pub mod Given
 pub mod Lead
 pub mod Lexical
@@ -7,7 +9,9 @@ pub mod Paths
 pub mod Project
 pub mod Refused
 pub mod Report
+pub mod Shape
 pub mod Source
 pub mod Stages
 pub mod Stop
+pub mod Typing
 pub mod Words

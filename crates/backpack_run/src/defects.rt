@@ -1,6 +1,6 @@
 //! The defects of a project with one plain module, with their places.
 ghost use Rattle.std.specs.Prelude.{◌≡◌, [], IfOk};
-ghost use Rattle.bp_base.specs.declared.code.Code.TheVariants.{NoSource, ProjectSyntax, ComponentSyntax, NoComponent, Syntax};
+ghost use Rattle.bp_base.specs.declared.code.Code.TheVariants.{NoSource, ProjectSyntax, ComponentSyntax, NoComponent, Syntax, IllTyped};
 ghost use Rattle.bp_base.specs.declared.defect.Item.TheVariants.{Offset, Line, Named};
 ghost use Rattle.backpack_run.specs.Refused.{defect_at};
 
@@ -80,4 +80,23 @@ pub fn module_syntax(alloc: Global, component: &[u8], at: &[u8]) -> Result<Defec
     ensures { IfOk result (λ defect. defect ≡ defect_at Syntax component.now at.now (Offset 0)) }
 {
     defect_at(alloc, Code::Syntax, component, at, Item::Offset { at: 0 })
+}
+
+/// A value has not its declared type.
+pub fn ill_typed(
+    alloc: Global,
+    component: &[u8],
+    at: &Name,
+    occ: &Name,
+) -> Result<Defect, AllocError>
+    ensures { IfOk result (λ defect. defect ≡ defect_at IllTyped component.now at.now (Named occ.now)) }
+{
+    let occ = occ.copied(alloc)?;
+    defect_at(
+        alloc,
+        Code::IllTyped,
+        component,
+        at.as_bytes(),
+        Item::Named { occ },
+    )
 }

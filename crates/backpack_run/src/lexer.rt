@@ -1,7 +1,7 @@
 //! From the bytes of a source to its tokens.
 ghost use Rattle.std.specs.Prelude.{◌≡◌, ◌≤◌, List, ℕ, length, IfOk, MatchOption};
-ghost use Rattle.backpack_run.specs.Lexical.{skip_blanks, Lexes};
 ghost use Rattle.bp_base.specs.Lists.{IsOnly};
+ghost use Rattle.backpack_run.specs.Lexical.{skip_blanks, Lexes};
 ghost use Rattle.backpack_run.specs.Lead.{word_len, symbol_len, lead_len};
 
 use crate::characters::{is_blank, is_word_char};
@@ -28,7 +28,7 @@ fn symbol_len(text: &[u8]) -> usize
 {
     match text {
         [b'{' | b'}' | b';' | b'=', ..] => 1,
-        [b':', b':', ..] => 2,
+        [b':', b':', ..] | [b'-', b'>', ..] => 2,
         _ => 0,
     }
 }
@@ -58,7 +58,7 @@ fn skip_blanks(text: &[u8]) -> &[u8]
 }
 
 /// The tokens of a source.
-pub fn tokens(alloc: Global, source: &[u8]) -> Result<Option<Vec<Bytes>>, AllocError>
+pub fn tokens_of(alloc: Global, source: &[u8]) -> Result<Option<Vec<Bytes>>, AllocError>
     ensures { IfOk result (λ found. MatchOption found ((tokens : List (List ℕ)) → Lexes (skip_blanks source.now) tokens → ⊥)
         (λ tokens. IsOnly (Lexes (skip_blanks source.now)) tokens.items)) }
 {

@@ -1,15 +1,22 @@
 //! From the tokens of a source to its module.
-ghost use Rattle.std.specs.Prelude.{◌≡◌, ◌≢◌, ◌<◌, ◌≤◌, ◌^◌, ◌↔◌, [], ◌∷◌, List, ℕ, length, codes, IfOk, IfSome, IsTrue, MatchOption};
-ghost use Rattle.backpack_run.specs.Source.{number_of, value_after, module_tokens, LeadsBinding, LeadsItem, AreItems, declares, names_differ, Spells};
-ghost use Rattle.bp_base.specs.Lists.{IsOnly};
-ghost use Rattle.hs_core.specs.declared.Binding.{Binding};
-ghost use Rattle.hs_core.specs.declared.PlainModule.{PlainModule};
+ghost use Rattle.std.specs.Prelude.{◌≡◌, ◌≢◌, ◌≤◌, ◌^◌, ◌↔◌, true, false, List, ℕ, Some, map, IfOk, IsTrue, MatchOption};
+ghost use Rattle.std.specs.List.{list_all};
+ghost use Rattle.bp_base.specs.Lists.{AreDistinct, IsOnly};
+ghost use Rattle.backpack_run.specs.Characters.{is_variable_name};
+ghost use Rattle.backpack_run.specs.Source.{number_of, value_after, atom_of, is_known, all_known, AreItems, Spells};
+ghost use Rattle.backpack_run.specs.Shape.{Holds, IsBuilt};
+ghost use Rattle.hs_core.specs.Plain.{names_of};
+ghost use Rattle.hs_core.specs.declared.plain.Atom.{Atom};
+ghost use Rattle.hs_core.specs.declared.plain.Binding.{Binding};
+ghost use Rattle.hs_core.specs.declared.plain.PlainModule.{PlainModule};
 
 use crate::characters::{all_digits, is_variable_name};
-use crate::lexer;
-use bp_base::{Bytes, Name};
-use hs_core::{Binding, Bindings, PlainModule};
+use crate::lexer::tokens_of;
+use crate::shape::{Shape, is_end, items_of, lead_shape};
+use bp_base::{Bytes, Name, Names};
+use hs_core::{Atom, Atoms, Binding, Bindings, PlainModule};
 use std::alloc::{AllocError, Global};
+use std::collections::BTreeSet;
 
 /// The greatest number of a source.
 const MAX_NUMBER: u64 = 9_223_372_036_854_775_807;
@@ -44,130 +51,177 @@ fn number_of(word: &[u8]) -> Option<u64>
     }
 }
 
-/// What comes after a token of this text.
-#[tactic(auto, using(bp_base::proofs::Texts::same_texts, bp_base::proofs::Texts::texts_same))]
-fn eat<'a>(tokens: &'a [Bytes], text: &[u8]) -> Option<&'a [Bytes]>
-    ensures { MatchOption result ((rest : List (List ℕ)) → tokens.now ≢ text.now ∷ rest) (λ rest. tokens.now ≡ text.now ∷ rest.now) }
+/// A set of these names, for look-ups, unless one stands twice.
+fn set_of(alloc: Global, names: &[Name]) -> Result<Option<BTreeSet<Name>>, AllocError>
+    ensures { IfOk result (λ found. MatchOption found (AreDistinct names.now → ⊥) (λ set. AreDistinct names.now × Holds set names.now)) }
 {
-    let [first, rest @ ..] = tokens else {
-        return None;
-    };
-    if first.as_bytes() == text {
-        Some(rest)
+    let mut set = BTreeSet::new(alloc);
+    for name in names {
+        let name = name.copied(alloc)?;
+        if !set.insert(name)? {
+            return Ok(None);
+        }
+    }
+    Ok(Some(set))
+}
+
+/// The names that these tokens are, unless one is no name of a value.
+fn args_of(alloc: Global, words: &[Bytes]) -> Result<Option<Names>, AllocError>
+    ensures { IfOk result (λ found. MatchOption found (list_all is_variable_name words.now ≡ false)
+        (λ names. (list_all is_variable_name words.now ≡ true) × (names ≡ words.now))) }
+{
+    let mut names = Names::new(alloc);
+    for word in words {
+        if !is_variable_name(word.as_bytes()) {
+            return Ok(None);
+        }
+        names.push(Name::from_bytes(alloc, word.as_bytes())?)?;
+    }
+    Ok(Some(names))
+}
+
+/// What a token of a right side is. The set holds the arguments of the clause.
+fn atom_of(alloc: Global, word: &[u8], args: &BTreeSet<Name>) -> Result<Option<Atom>, AllocError>
+    ensures { (names : List (List ℕ)) → Holds args.now names → IfOk result (λ atom. atom ≡ atom_of names word.now) }
+{
+    if !is_variable_name(word) {
+        return match number_of(word) {
+            Some(value) => Ok(Some(Atom::Number { value })),
+            None => Ok(None),
+        };
+    }
+    let occ = Name::from_bytes(alloc, word)?;
+    if args.contains(&occ) {
+        Ok(Some(Atom::Argument { occ }))
     } else {
-        None
+        Ok(Some(Atom::Declared { occ }))
     }
 }
 
-/// What comes after the opening brace of a module of this name.
-fn items_of<'a>(tokens: &'a [Bytes], name: &[u8]) -> Option<&'a [Bytes]>
-    ensures { MatchOption result ((items : List (List ℕ)) → tokens.now ≢ module_tokens name.now items)
-        (λ items. tokens.now ≡ module_tokens name.now items.now) }
+/// The atoms that these tokens are, unless one is none.
+fn atoms_of(
+    alloc: Global,
+    words: &[Bytes],
+    args: &BTreeSet<Name>,
+) -> Result<Option<Atoms>, AllocError>
+    ensures { (names : List (List ℕ)) → Holds args.now names → IfOk result (λ found. MatchOption found
+        ((atoms : List Atom) → map (atom_of names) words.now ≢ map Some atoms)
+        (λ atoms. map (atom_of names) words.now ≡ map Some atoms)) }
 {
-    let rest = eat(tokens, b"module")?;
-    let rest = eat(rest, name)?;
-    let rest = eat(rest, b"where")?;
-    eat(rest, b"{")
+    let mut atoms = Atoms::new(alloc);
+    for word in words {
+        let Some(atom) = atom_of(alloc, word.as_bytes(), args)? else {
+            return Ok(None);
+        };
+        atoms.push(atom)?;
+    }
+    Ok(Some(atoms))
 }
 
-/// The binding at the front: its name, its number and what comes after it.
-fn lead_binding(tokens: &[Bytes]) -> Option<(&Bytes, u64, &[Bytes])>
-    ensures { MatchOption result ((occ : List ℕ) (value : ℕ) (rest : List (List ℕ)) → LeadsBinding tokens.now occ value rest → ⊥)
-        (λ x. LeadsBinding tokens.now x.0.now x.1 x.2.now) }
+/// The value of these tokens.
+fn binding_of(alloc: Global, shape: &Shape) -> Result<Option<Binding>, AllocError>
+    ensures { IfOk result (λ found. MatchOption found
+        ((b : Binding) → IsBuilt shape.now.occ.now shape.now.arrows shape.now.args.now shape.now.words.now b → ⊥)
+        (IsBuilt shape.now.occ.now shape.now.arrows shape.now.args.now shape.now.words.now)) }
 {
-    let [occ, rest @ ..] = tokens else {
-        return None;
+    if shape.words.is_empty() {
+        return Ok(None);
+    }
+    let Some(args) = args_of(alloc, shape.args)? else {
+        return Ok(None);
     };
-    if !is_variable_name(occ.as_bytes()) {
-        return None;
-    }
-    let rest = eat(rest, b"::")?;
-    let rest = eat(rest, b"Int")?;
-    let rest = eat(rest, b";")?;
-    let rest = eat(rest, occ.as_bytes())?;
-    let rest = eat(rest, b"=")?;
-    let [number, rest @ ..] = rest else {
-        return None;
+    let Some(set) = set_of(alloc, args.as_slice())? else {
+        return Ok(None);
     };
-    let value = number_of(number.as_bytes())?;
-    Some((occ, value, rest))
-}
-
-/// Whether these tokens are a closing brace alone.
-fn is_end(tokens: &[Bytes]) -> bool
-    ensures { IsTrue result ↔ (tokens.now ≡ codes "}" ∷ []) }
-{
-    match eat(tokens, b"}") {
-        Some(rest) => rest.is_empty(),
-        None => false,
-    }
-}
-
-/// The binding at the front, with the semicolon after it.
-fn lead_item(tokens: &[Bytes]) -> Option<(&Bytes, u64, &[Bytes])>
-    ensures found { MatchOption result ((occ : List ℕ) (value : ℕ) (rest : List (List ℕ)) → LeadsItem tokens.now occ value rest → ⊥)
-        (λ x. LeadsItem tokens.now x.0.now x.1 x.2.now) }
-    ensures shorter { IfSome result (λ x. length x.2.now < length tokens.now) }
-{
-    let Some((occ, value, rest)) = lead_binding(tokens) else {
-        return None;
+    let Some(atoms) = atoms_of(alloc, shape.words, &set)? else {
+        return Ok(None);
     };
-    if let Some(after) = eat(rest, b";") {
-        return Some((occ, value, after));
-    }
-    if is_end(rest) {
-        Some((occ, value, rest))
-    } else {
-        None
-    }
+    let occ = Name::from_bytes(alloc, shape.occ.as_bytes())?;
+    Ok(Some(Binding {
+        occ,
+        arrows: shape.arrows,
+        args,
+        atoms,
+    }))
 }
 
-/// The bindings of a module, from the tokens behind its opening brace.
-fn bindings(alloc: Global, tokens: &[Bytes]) -> Result<Option<Bindings>, AllocError>
+/// The values of a module, from the tokens behind its opening brace.
+fn bindings_of(alloc: Global, tokens: &[Bytes]) -> Result<Option<Bindings>, AllocError>
     ensures { IfOk result (λ found. MatchOption found ((bindings : List Binding) → AreItems bindings tokens.now → ⊥)
         (λ bindings. IsOnly (λ bs. AreItems bs tokens.now) bindings)) }
 {
-    let mut bindings = Vec::new(alloc);
+    let mut bindings = Bindings::new(alloc);
     let mut rest = tokens;
-    while let Some((occ, value, after)) = lead_item(rest) {
-        let occ = Name::from_bytes(alloc, occ.as_bytes())?;
-        bindings.push(Binding { occ, value })?;
-        rest = after;
+    while let Some(shape) = lead_shape(rest) {
+        let Some(binding) = binding_of(alloc, &shape)? else {
+            return Ok(None);
+        };
+        bindings.push(binding)?;
+        rest = shape.rest;
     }
     if is_end(rest) {
-        Ok(Some(Bindings::from_vec(bindings)))
+        Ok(Some(bindings))
     } else {
         Ok(None)
     }
 }
 
-/// Whether some binding declares the name.
-fn declares(bindings: &[Binding], name: &Name) -> bool
-    ensures { result ≡ declares bindings.now name.now }
+/// The declared names.
+fn names_of(alloc: Global, bindings: &[Binding]) -> Result<Names, AllocError>
+    ensures { IfOk result (λ names. names ≡ names_of bindings.now) }
 {
+    let mut names = Names::new(alloc);
     for binding in bindings {
-        if binding.occ == *name {
-            return true;
-        }
+        names.push(binding.occ.copied(alloc)?)?;
     }
-    false
+    Ok(names)
 }
 
-/// Whether no name is declared twice.
-fn names_differ(bindings: &[Binding]) -> bool
-    ensures { result ≡ names_differ bindings.now }
+/// Whether an atom that is a declared name is in the set.
+fn is_known(atom: &Atom, declared: &BTreeSet<Name>) -> bool
+    ensures { (names : List (List ℕ)) → Holds declared.now names → result ≡ is_known names atom.now }
 {
-    let mut rest = bindings;
-    while let [first, after @ ..] = rest {
-        if declares(after, &first.occ) {
+    match atom {
+        Atom::Number { .. } | Atom::Argument { .. } => true,
+        Atom::Declared { occ } => declared.contains(occ),
+    }
+}
+
+fn are_known(atoms: &[Atom], declared: &BTreeSet<Name>) -> bool
+    ensures { (names : List (List ℕ)) → Holds declared.now names → result ≡ list_all (is_known names) atoms.now }
+{
+    for atom in atoms {
+        if !is_known(atom, declared) {
             return false;
         }
-        rest = after;
     }
     true
 }
 
-/// The module of this name that a source spells.
+/// Whether each declared name of the right sides is in the set.
+fn all_known(bindings: &[Binding], declared: &BTreeSet<Name>) -> bool
+    ensures { (names : List (List ℕ)) → Holds declared.now names → result ≡ all_known names bindings.now }
+{
+    for binding in bindings {
+        if !are_known(binding.atoms.as_slice(), declared) {
+            return false;
+        }
+    }
+    true
+}
+
+/// Whether no name is declared twice, and each name of a right side is an argument or declared.
+fn is_closed(alloc: Global, bindings: &[Binding]) -> Result<bool, AllocError>
+    ensures { IfOk result (λ closed. IsTrue closed ↔ (AreDistinct (names_of bindings.now) × IsTrue (all_known (names_of bindings.now) bindings.now))) }
+{
+    let names = names_of(alloc, bindings)?;
+    match set_of(alloc, names.as_slice())? {
+        Some(declared) => Ok(all_known(bindings, &declared)),
+        None => Ok(false),
+    }
+}
+
+/// The module of this name that a source spells: none where it spells none, and else the only one.
 pub fn read_module(
     alloc: Global,
     source: &[u8],
@@ -176,16 +230,16 @@ pub fn read_module(
     ensures { IfOk result (λ found. MatchOption found ((m : PlainModule) → m.name ≡ name.now → Spells m source.now → ⊥)
         (λ m. IsOnly (λ x. (x.name ≡ name.now) × Spells x source.now) m)) }
 {
-    let Some(tokens) = lexer::tokens(alloc, source)? else {
+    let Some(tokens) = tokens_of(alloc, source)? else {
         return Ok(None);
     };
     let Some(items) = items_of(&tokens, name) else {
         return Ok(None);
     };
-    let Some(bindings) = bindings(alloc, items)? else {
+    let Some(bindings) = bindings_of(alloc, items)? else {
         return Ok(None);
     };
-    if !names_differ(bindings.as_slice()) {
+    if !is_closed(alloc, bindings.as_slice())? {
         return Ok(None);
     }
     let name = Name::from_bytes(alloc, name)?;

@@ -1,25 +1,13 @@
-//! Modules as they are after their names are resolved, and their text.
+//! Modules as they are after their names are resolved, and the text of a flat module.
+//!
+//! Today this is the plain form alone: a module without imports, all of whose values have types made of `Int` and arrows.
 #![tactic(auto)]
 
+mod plain;
 mod print;
 
-use bp_base::Name;
+pub use plain::{Atom, Atoms, Binding, Bindings, PlainModule};
 pub use print::print_module;
-use sqlite_items::Items;
 
-/// A value of type `Int`: its name and the number that it is.
-#[derive(Debug, Drop)]
-pub struct Binding {
-    pub occ: Name,
-    pub value: u64,
-}
-
-/// Bindings in the order of the source.
-pub type Bindings = Items<Binding>;
-
-/// A module without imports.
-#[derive(Debug, Drop)]
-pub struct PlainModule {
-    pub name: Name,
-    pub bindings: Bindings,
-}
+#[cfg(test)]
+mod tests;

@@ -1,1 +1,4 @@
 pub mod Fills
+pub mod WellFormed
+pub mod ReadBack
+pub mod Exact

@@ -1,0 +1,31 @@
+-- How many steps a build takes.
+use Rattle.std.proofs.Common.{◌≡◌, ◌⊎◌, inl, inr, ℕ, ◌+◌, ◌≤◌, ◌<◌, Some, List, [], ◌∷◌, ◌++◌, length, get_or, refl, sym, ap, ◌∙◌, subst, arith, length-append}
+use Rattle.bp_base.specs.Texts.{Text}
+use Rattle.bp_edges.specs.declared.files.File.{File}
+use Rattle.hs_core.specs.declared.plain.Binding.{Binding}
+use Rattle.hs_core.specs.declared.plain.PlainModule.{PlainModule}
+use Rattle.backpack_run.specs.Counts.{Counts}
+use Rattle.backpack_run.specs.Given.{read_target}
+use Rattle.backpack_run.specs.Refused.{Refused}
+use Rattle.backpack_run.specs.Typing.{Entry, IsFirstIll}
+use Rattle.backpack_run.proofs.Exact.{IsExact-read}
+
+-- where the module is read, its values are counted
+pub counted : (files : List File) (target : Text) (m : PlainModule) (n : ℕ) → (read_target files target).passes m → Counts files target n → n ≡ length m.bindings
+counted files target m n p (inl (k, q, e)) = e ∙ ap (λ (x : PlainModule). length x.bindings) ((IsExact-read files target).one_answer k m q p)
+counted files target m n p (inr (r, f, e)) = absurd ((IsExact-read files target).never_both m r p f)
+
+-- where the first ill-typed value stands
+pub ill_within : (globals : List Entry) (bindings : List Binding) (place : ℕ) → IsFirstIll globals bindings place → place < length bindings
+ill_within globals bindings place f =
+    let e = ap length f.parts in
+    let n = length-append f.before (f.it ∷ f.after) in
+    let b = f.behind in
+    omega (arith, e, n, b)
+
+at_middle : (before : List Binding) (it : Binding) (after : List Binding) (d : Binding) → get_or (before ++ it ∷ after) (length before) d ≡ it
+at_middle [] it after d = refl
+at_middle (b ∷ before) it after d = at_middle before it after d
+
+pub ill_there : (globals : List Entry) (bindings : List Binding) (place : ℕ) (d : Binding) → (f : IsFirstIll globals bindings place) → get_or bindings place d ≡ f.it
+ill_there globals bindings place d f = rw (f.parts, f.behind) (at_middle f.before f.it f.after d)

@@ -1,0 +1,5 @@
+use Rattle.unit_identity.proofs.Exact.{one-spelling}
+use Rattle.unit_identity.proofs.text.one_spelling.Goals as goal
+
+pub returns : goal.returns
+returns c = one-spelling
