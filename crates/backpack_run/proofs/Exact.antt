@@ -172,14 +172,14 @@ IsExact-listed files name = IsExact-then (file files (package_path name) [] []) 
 IsExact-source : (files : List File) (name at : Text) → IsExact (source files name at)
 IsExact-source files name at = IsExact-then (file files (module_path name at) name at) (in_source name at) (IsExact-file files (module_path name at) name at)
     (λ content. IsExact-spelled (λ m. (m.name ≡ at) × Spells m content) (defect_at Syntax name at (Offset 0))
-      (λ m k p q. one_module content m k (p.0 ∙ sym q.0) p.1 q.1))
+    (λ m k p q. one_module content m k (p.0 ∙ sym q.0) p.1 q.1))
 
 IsExact-target : (files : List File) (target : Text) → IsExact (target_module files target)
 IsExact-target files target =
     IsExact-then (named_package files) _ (IsExact-named files) (λ name.
-      IsExact-then (listed_module files name) _ (IsExact-listed files name) (λ at.
-        IsExact-then (needed (name ≡ target) (defect_at NoComponent [] [] (Named target))) _ (IsExact-needed (name ≡ target) (defect_at NoComponent [] [] (Named target))) (λ _.
-          IsExact-given at)))
+    IsExact-then (listed_module files name) _ (IsExact-listed files name) (λ at.
+    IsExact-then (needed (name ≡ target) (defect_at NoComponent [] [] (Named target))) _ (IsExact-needed (name ≡ target) (defect_at NoComponent [] [] (Named target))) (λ _.
+    IsExact-given at)))
 
 pub IsExact-read : (files : List File) (target : Text) → IsExact (read_target files target)
 IsExact-read files target = IsExact-then (target_module files target) (source files target) (IsExact-target files target) (λ at. IsExact-source files target at)
@@ -187,7 +187,7 @@ IsExact-read files target = IsExact-then (target_module files target) (source fi
 pub IsExact-checked : (files : List File) (target : Text) → IsExact (checked_target files target)
 IsExact-checked files target =
     IsExact-then (read_target files target) _ (IsExact-read files target) (λ m.
-      IsExact-then (typed target m) _ (IsExact-typed target m) (λ _. IsExact-given m))
+    IsExact-then (typed target m) _ (IsExact-typed target m) (λ _. IsExact-given m))
 
 IsExact-text : (m : PlainModule) → IsExact (text_of m)
 IsExact-text m = record { one_answer = λ t u p q. one_flat_text m t u p q; one_refusal = λ r q h k. absurd h; never_both = λ t r p h. h }

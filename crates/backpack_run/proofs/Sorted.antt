@@ -84,7 +84,7 @@ one_sorted (y ∷ ys) (z ∷ zs) s t h =
     let zy = none_below y ys z s (omega (arith, stands z zs, h z)) in
     let same : y ≡ z = neither y z yz zy in
     let rest : ys ≡ zs = one_sorted ys zs (rest_sorted y ys s) (rest_sorted z zs t)
-        (λ a. let e : hit a y ≡ hit a z = ap (hit a) same in omega (arith, h a, times-cons a y ys, times-cons a z zs, e)) in
+    (λ a. let e : hit a y ≡ hit a z = ap (hit a) same in omega (arith, h a, times-cons a y ys, times-cons a z zs, e)) in
     ap (λ (x : Text). x ∷ ys) same ∙ ap (λ (l : List Text). z ∷ l) rest
 
 pub one_order : (xs ys zs : List Text) → IsPermutation xs ys → IsPermutation xs zs → AreSorted ys → AreSorted zs → ys ≡ zs
