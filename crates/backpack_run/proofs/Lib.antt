@@ -5,3 +5,5 @@ pub mod Numbers
 pub mod Runs
 pub mod Sets
 pub mod Shaping
+pub mod Tables
+pub mod Types

@@ -1,5 +1,7 @@
+pub mod Arities
 pub mod Characters
 pub mod Lead
 pub mod Lexical
 pub mod Shape
 pub mod Source
+pub mod Typing
