@@ -177,8 +177,7 @@ built_there : (tokens : Tokens) (occ : List ℕ) (n : ℕ) (args words rest : To
     → LeadsShape tokens occ n args words rest → LeadsItem tokens b more → IsBuilt occ n args words b × (more ≡ rest)
 built_there tokens occ n args words rest b more s h =
     let k = item_shape tokens b more h in
-    let o = one_shape tokens b.occ b.arrows b.args k.words more occ n args words rest k.shape s in
-    (
+    let o = one_shape tokens b.occ b.arrows b.args k.words more occ n args words rest k.shape s in (
       record {
         occ_is = o.occ_is;
         arrows_are = o.arrows_are;

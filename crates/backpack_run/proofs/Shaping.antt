@@ -130,8 +130,8 @@ pub one_shape : (tokens : Tokens) (occ : List ℕ) (n : ℕ) (args words rest : 
 one_shape tokens occ n args words rest other m others wordings more p q =
     let t = one_type tokens occ n p.between other m q.between p.typed q.typed in
     let cut : LeadsWords p.between occ others wordings q.behind =
-            subst (λ (b : Tokens). LeadsWords b occ others wordings q.behind) (sym t.rest_is)
-            (subst (λ (o : List ℕ). LeadsWords q.between o others wordings q.behind) (sym t.occ_is) q.cut) in
+    subst (λ (b : Tokens). LeadsWords b occ others wordings q.behind) (sym t.rest_is)
+    (subst (λ (o : List ℕ). LeadsWords q.between o others wordings q.behind) (sym t.occ_is) q.cut) in
     let c = one_clause p.between occ args words p.behind others wordings q.behind p.cut cut in
     record {
       occ_is = t.occ_is;

@@ -99,7 +99,7 @@ module _ (bs : List Binding) (args : List (List ℕ)) where
   applies-into (a ∷ atoms) k m (u, v, e, h, r) =
       let f = declared-function k u v e in
       let i : is_integer bs args a ≡ true =
-              integer_one (atom_arrows bs args a) (atom_has a integer (subst (λ (w : Plain). AtomHas Globals Locals a w) f.takes h)) in
+      integer_one (atom_arrows bs args a) (atom_has a integer (subst (λ (w : Plain). AtomHas Globals Locals a w) f.takes h)) in
       let q = applies-into atoms f.left m (subst (λ (w : Plain). Applies Globals Locals w atoms (declared_type m)) f.gives r) in
       (rw i q.0, omega (arith, q.1, f.more))
 
@@ -112,8 +112,7 @@ module _ (bs : List Binding) (args : List (List ℕ)) where
           → (list_all (is_integer bs args) atoms ≡ true → Applies Globals Locals (declared_type (length atoms + m)) atoms (declared_type m))
           → Applies Globals Locals (declared_type k) (a ∷ atoms) (declared_type m)
       by_cases true f more =
-          let n : k ≡ length atoms + m + 1 = omega (arith, e) in
-          (
+          let n : k ≡ length atoms + m + 1 = omega (arith, e) in (
             integer,
             declared_type (length atoms + m),
             ap declared_type n ∙ declared-more (length atoms + m),
@@ -134,16 +133,15 @@ clause-into globals locals [] atoms n h = record { left = n; arrows_are = omega 
 clause-into globals locals (arg ∷ args) atoms n (u, v, e, h) =
     let f = declared-function n u v e in
     let q = clause-into globals (an_int arg ∷ locals) args atoms f.left
-            (subst (λ (w : Plain). ClauseHas globals (an_int arg ∷ locals) args atoms w) f.gives
-            (subst (λ (w : Plain). ClauseHas globals (record { name = arg; type = w } ∷ locals) args atoms v) f.takes h)) in
+    (subst (λ (w : Plain). ClauseHas globals (an_int arg ∷ locals) args atoms w) f.gives
+    (subst (λ (w : Plain). ClauseHas globals (record { name = arg; type = w } ∷ locals) args atoms v) f.takes h)) in
     record { left = q.left; arrows_are = omega (arith, q.arrows_are, f.more); right = q.right }
 
 clause-back : (globals locals : List Entry) (args : List (List ℕ)) (atoms : List Atom) (n m : ℕ) → n ≡ length args + m
     → AtomsHave globals (pushed locals args) atoms (declared_type m) → ClauseHas globals locals args atoms (declared_type n)
 clause-back globals locals [] atoms n m e h = subst (λ (k : ℕ). AtomsHave globals locals atoms (declared_type k)) (omega (arith, e)) h
 clause-back globals locals (arg ∷ args) atoms n m e h =
-    let k : n ≡ length args + m + 1 = omega (arith, e) in
-    (
+    let k : n ≡ length args + m + 1 = omega (arith, e) in (
       integer,
       declared_type (length args + m),
       ap declared_type k ∙ declared-more (length args + m),

@@ -64,13 +64,7 @@ fn atom_arrows(atom: &Atom, args: &[Name], table: &BTreeMap<Name, u64>) -> Optio
 {
     match atom {
         Atom::Number { .. } => Some(0),
-        Atom::Argument { occ } => {
-            if is_among(occ, args) {
-                Some(0)
-            } else {
-                None
-            }
-        }
+        Atom::Argument { occ } => { if is_among(occ, args) { Some(0) } else { None } }
         Atom::Declared { occ } => table.get(occ).copied(),
     }
 }
