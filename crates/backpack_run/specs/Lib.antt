@@ -1,3 +1,4 @@
+pub mod Answer
 pub mod Arities
 pub mod Characters
 pub mod Counts
@@ -10,4 +11,7 @@ pub mod Refused
 pub mod Report
 pub mod Shape
 pub mod Source
+pub mod Stages
+pub mod Stop
 pub mod Typing
+pub mod Words
