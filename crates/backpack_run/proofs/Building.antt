@@ -191,7 +191,7 @@ built_there tokens occ n args words rest b more s h =
       o.rest_is,
     )
 
-first_item : (tokens : Tokens) (occ : List ℕ) (n : ℕ) (args words rest : Tokens) (b : Binding) → LeadsShape tokens occ n args words rest
+pub first_item : (tokens : Tokens) (occ : List ℕ) (n : ℕ) (args words rest : Tokens) (b : Binding) → LeadsShape tokens occ n args words rest
     → IsBuilt occ n args words b → (more : List Binding) → AreItems more tokens → (m : List Binding) × (more ≡ b ∷ m) × AreItems m rest
 first_item tokens occ n args words rest b s built [] e = absurd (no_value tokens occ n args words rest s e)
 first_item tokens occ n args words rest b s built (c ∷ cs) k =
