@@ -2,6 +2,7 @@ pub mod Building
 pub mod Lexing
 pub mod Modules
 pub mod Numbers
+pub mod OneReading
 pub mod ReadingBack
 pub mod Runs
 pub mod Sets

@@ -13,6 +13,7 @@ use Rattle.backpack_run.specs.Lexical.{skip_blanks}
 use Rattle.backpack_run.specs.Source.{value_after, number_of, arrows_then, is_among, atom_of, LeadsType, LeadsClause, LeadsBinding, LeadsItem, AreItems, Spells}
 use Rattle.backpack_run.specs.ReadBack.{is_flat_char, starts_flat, is_flat_symbol, LexesFlat, export_tokens, flat_tokens, after_front, plain_token, ReadsBack}
 use Rattle.backpack_run.proofs.Building.{item_shape, first_item}
+use Rattle.backpack_run.proofs.OneReading.{one_reading}
 use Rattle.backpack_run.proofs.Shaping.{arrows-more}
 use Rattle.hs_core.specs.Text.{flat_name, more_names, name_list, head_line, arrows_text, type_line, args_text, atom_text, atoms_text, clause_line, binding_lines, text_with, IsFlatText}
 use Rattle.hs_core.specs.declared.plain.Atom.{Atom}
@@ -686,10 +687,12 @@ reads_back m source text n s f =
     let law = items_lawful m.bindings s.items s.listed in
     let there = items_back m.name m.bindings n law in
     let lexed = text_lexed m f.exports n law (exported_all (names_of m.bindings) f.exports f.same (named_all m.bindings law)) in
+    let tokens : Tokens = flat_tokens m.name f.exports (items_of m.name m.bindings) in
+    let here : Lexed text tokens = subst (λ (t : List ℕ). Lexed t tokens) (sym f.written) lexed in
     record {
       exports = f.exports;
       items = items_of m.name m.bindings;
       same = f.same;
-      lexed = subst (λ (t : List ℕ). Lexed t (flat_tokens m.name f.exports (items_of m.name m.bindings))) (sym f.written) lexed;
+      lexed = record { holds = here; only = λ other h. one_reading (skip_blanks text) other tokens h here };
       listed = record { holds = there; only = λ other h. one_items (plain_items m.name m.bindings) other m.bindings h there };
     }

@@ -53,11 +53,11 @@ abbrev pub plain_token : List ℕ → List ℕ → List ℕ
 plain_token at word =
     if is_text word (codes "Prelude.Int") then codes "Int" else unwrap_or (after_front (codes "U0." ++ at ++ codes ".") word) word
 
--- The text's tokens are those of a module of this name that exports what it declares, and what they declare, as a source writes
--- it, spells the module's values and nothing else.
+-- The text's only tokens are those of a module of this name that exports what it declares, and what they declare, as a source
+-- writes it, spells the module's values and nothing else.
 pub record ReadsBack (m : PlainModule) (text : List ℕ) : Type 0 where
   pub exports : List (List ℕ)
   pub items : List (List ℕ)
   pub same : IsPermutation (names_of m.bindings) exports
-  pub lexed : LexesFlat (skip_blanks text) (flat_tokens m.name exports items)
+  pub lexed : IsOnly (LexesFlat (skip_blanks text)) (flat_tokens m.name exports items)
   pub listed : IsOnly (λ bs. AreItems bs (map (plain_token m.name) items)) m.bindings
