@@ -6,9 +6,8 @@ pub mod Lexing
 pub mod Loading
 pub mod Modules
 pub mod Numbers
-pub mod OneText
-pub mod Phrases
-pub mod Refusals
+pub mod OneReading
+pub mod ReadingBack
 pub mod Runs
 pub mod Sets
 pub mod Shaping

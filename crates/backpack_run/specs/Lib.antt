@@ -5,10 +5,7 @@ pub mod Counts
 pub mod Given
 pub mod Lead
 pub mod Lexical
-pub mod Paths
-pub mod Project
-pub mod Refused
-pub mod Report
+pub mod ReadBack
 pub mod Shape
 pub mod Source
 pub mod Stages
