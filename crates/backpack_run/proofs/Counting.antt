@@ -39,5 +39,5 @@ pub ill_refused : (target : Text) (m : PlainModule) (bindings : List Binding) (p
 ill_refused target m bindings place d b e f k =
     let first = subst (λ (bs : List Binding). IsFirstIll (entries_of bs) bs place) e f in
     let there : get_or bindings place b ≡ first.it =
-        ap (λ (bs : List Binding). get_or bs place b) e ∙ ill_there (entries_of m.bindings) m.bindings place b first in
+    ap (λ (bs : List Binding). get_or bs place b) e ∙ ill_there (entries_of m.bindings) m.bindings place b first in
     (place, first, ap Wrong (k ∙ ap (λ (x : Binding). defect_at IllTyped target m.name (Named x.occ)) there))

@@ -7,7 +7,10 @@ pub mod Loading
 pub mod Modules
 pub mod Numbers
 pub mod OneReading
+pub mod OneText
+pub mod Phrases
 pub mod ReadingBack
+pub mod Refusals
 pub mod Runs
 pub mod Sets
 pub mod Shaping

@@ -5,7 +5,11 @@ pub mod Counts
 pub mod Given
 pub mod Lead
 pub mod Lexical
+pub mod Paths
+pub mod Project
 pub mod ReadBack
+pub mod Refused
+pub mod Report
 pub mod Shape
 pub mod Source
 pub mod Stages

@@ -8,4 +8,4 @@ pub returns-in_err-plain-clause-refusal : goal.returns-in_err-plain-clause-refus
 returns-in_err-plain-clause-refusal g c = λ files told.
     let p = err_from_is_err_and c.from_residual.result c.from_residual.ensures.1 in
     rw (p.1, p.2) (refused-map c.in_err-plain.field-0.0 (checked_target files c.args.target.now).fails (flat_program files c.args.target.now).fails (λ r z. inl z)
-      (c.in_err-plain.ensures.refusal files told))
+    (c.in_err-plain.ensures.refusal files told))
