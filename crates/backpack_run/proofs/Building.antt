@@ -1,12 +1,12 @@
 -- Values and the tokens that they are read from.
-use Rattle.std.proofs.Common.{refl, sym, ap, ◌∙◌, subst, ◌≡◌, ◌≢◌, ◌⊎◌, inl, inr, ℕ, zero, suc, ◌<◌, Bool, true, false, not, ◌||◌, Option, Some, None, List, [], ◌∷◌, ◌++◌, map, codes, IsTrue, length, get_or, arith}
+use Rattle.std.proofs.Common.{refl, sym, ap, ◌∙◌, subst, ◌≡◌, ◌≢◌, inl, inr, ℕ, zero, suc, ◌<◌, Bool, true, false, not, ◌||◌, Option, Some, None, List, [], ◌∷◌, ◌++◌, map, codes, IsTrue, length, get_or, arith}
 use Rattle.std.specs.List.{list_all}
 use Rattle.bp_base.specs.Lists.{AreDistinct, IsOnly, SoFar}
 use Rattle.bp_base.proofs.Reading.{SoFar-step, SoFar-end, SoFar-none}
 use Rattle.bp_base.proofs.Texts.{same_texts}
 use Rattle.backpack_run.specs.Characters.{is_lower, is_digit, is_text, is_variable_name}
-use Rattle.backpack_run.specs.Source.{number_of, LeadsType, atom_of, LeadsClause, LeadsBinding, LeadsItem, AreItems}
-use Rattle.backpack_run.specs.Shape.{first_passes, is_no_equals, is_no_end, LeadsWords, Ends, LeadsShape, IsBuilt, Holds}
+use Rattle.backpack_run.specs.Source.{LeadsType, atom_of, LeadsBinding, LeadsItem, AreItems}
+use Rattle.backpack_run.specs.Shape.{is_no_equals, is_no_end, LeadsWords, Ends, LeadsShape, IsBuilt, Holds}
 use Rattle.std.specs.BTreeSet.{BTreeSet}
 use Rattle.backpack_run.proofs.Shaping.{NoShape, ends_run, one_shape}
 use Rattle.hs_core.specs.declared.plain.Atom.{Atom}

@@ -1,5 +1,5 @@
 -- How many steps a build takes.
-use Rattle.std.proofs.Common.{◌≡◌, ◌⊎◌, inl, inr, ℕ, ◌+◌, ◌≤◌, ◌<◌, Some, List, [], ◌∷◌, ◌++◌, length, get_or, refl, sym, ap, ◌∙◌, subst, arith, length-append}
+use Rattle.std.proofs.Common.{◌≡◌, inl, inr, ℕ, ◌<◌, List, [], ◌∷◌, ◌++◌, length, get_or, refl, ap, ◌∙◌, subst, arith, length-append}
 use Rattle.bp_base.specs.Texts.{Text}
 use Rattle.bp_base.specs.declared.code.Code.TheVariants.{IllTyped}
 use Rattle.bp_base.specs.declared.defect.Defect.{Defect}
@@ -9,7 +9,7 @@ use Rattle.hs_core.specs.declared.plain.Binding.{Binding}
 use Rattle.hs_core.specs.declared.plain.PlainModule.{PlainModule}
 use Rattle.backpack_run.specs.Counts.{Counts}
 use Rattle.backpack_run.specs.Given.{read_target, typed}
-use Rattle.backpack_run.specs.Refused.{Refused, Wrong, defect_at}
+use Rattle.backpack_run.specs.Refused.{Wrong, defect_at}
 use Rattle.backpack_run.specs.Typing.{Entry, entries_of, IsFirstIll}
 use Rattle.backpack_run.proofs.Exact.{IsExact-read}
 

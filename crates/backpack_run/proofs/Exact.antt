@@ -1,8 +1,8 @@
 -- A project gives at most one outcome for a target.
-use Rattle.std.proofs.Common.{◌≡◌, ◌⊎◌, inl, inr, ℕ, ◌<◌, ◌≤◌, Option, Some, None, List, [], ◌∷◌, ◌++◌, length, take, drop, codes, refl, sym, ap, ◌∙◌, subst, arith}
+use Rattle.std.proofs.Common.{◌≡◌, inl, inr, Some, None, List, [], ◌∷◌, ◌++◌, length, take, drop, codes, refl, sym, ap, ◌∙◌, subst, arith}
 use Rattle.std.proofs.lemmas.List.{append_cancel_left, append_cancel_right}
 use Rattle.std.proofs.Math.Seq.{take-append_seam, drop-append_seam}
-use Rattle.bp_base.specs.Check.{Check, given, IsExact}
+use Rattle.bp_base.specs.Check.{IsExact}
 use Rattle.bp_base.specs.Texts.{Text}
 use Rattle.bp_base.specs.declared.code.Code.TheVariants.{ProjectSyntax, ComponentSyntax, NoComponent, Syntax, IllTyped}
 use Rattle.bp_base.specs.declared.defect.Item.TheVariants.{Offset, Line, Named}
@@ -20,7 +20,7 @@ use Rattle.backpack_run.specs.Project.{IsProject, IsPackage}
 use Rattle.backpack_run.specs.Refused.{Refused, Wrong, defect_at}
 use Rattle.backpack_run.specs.Source.{AreItems, module_tokens, Spells}
 use Rattle.backpack_run.specs.Stages.{HasFile, IsTooLong, file, spelled, needed}
-use Rattle.backpack_run.specs.Typing.{Entry, entries_of, IsTyped, AreTyped, IsFirstIll}
+use Rattle.backpack_run.specs.Typing.{Entry, entries_of, IsTyped, AreTyped}
 use Rattle.backpack_run.proofs.Building.{item_shape, first_item}
 use Rattle.backpack_run.proofs.Lexing.{lead_len-complete, nothing_left}
 use Rattle.backpack_run.proofs.OneText.{one_flat_text}

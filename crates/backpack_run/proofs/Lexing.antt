@@ -1,7 +1,6 @@
 -- The token at the front of a text.
-use Rattle.std.proofs.Common.{suc, zero, ◌≡◌, ◌≢◌, ◌⊎◌, inl, inr, ℕ, ◌+◌, ◌<◌, ◌≤◌, Bool, true, false, ◌&&◌, ◌||◌, cond, List, [], ◌∷◌, ◌++◌, length, take, drop, codes, refl, sym, ap, ◌∙◌, subst, arith, IsTrue, nat_lt, add-one, length-append}
+use Rattle.std.proofs.Common.{suc, zero, ◌≡◌, ◌⊎◌, inl, inr, ℕ, ◌<◌, ◌≤◌, Bool, true, false, ◌&&◌, ◌||◌, List, [], ◌∷◌, ◌++◌, length, take, drop, codes, refl, sym, ap, ◌∙◌, subst, arith, add-one, length-append}
 use Rattle.std.specs.List.{list_all}
-use Rattle.std.proofs.lemmas.Bool.{cases_Bool}
 use Rattle.std.proofs.lemmas.Bool.Decides.{nat_tests}
 use Rattle.std.proofs.lemmas.Grind.{common_steps}
 use Rattle.std.proofs.lemmas.List.{take-append-drop}
@@ -9,9 +8,9 @@ use Rattle.std.proofs.Math.Seq.{take-append_seam, drop-append_seam}
 use Rattle.bp_base.specs.Lists.{IsOnly, SoFar}
 use Rattle.bp_base.proofs.Reading.{SoFar-step, SoFar-end, SoFar-none}
 use Rattle.bp_base.proofs.Texts.{same_texts}
-use Rattle.backpack_run.specs.Characters.{is_lower, is_upper, is_digit, is_word_char, is_blank, is_text}
+use Rattle.backpack_run.specs.Characters.{is_lower, is_upper, is_digit, is_word_char, is_text}
 use Rattle.backpack_run.specs.Lexical.{starts_word, is_symbol, IsToken, Leads, skip_blanks, Lexes}
-use Rattle.backpack_run.specs.Lead.{word_len, pair_len, symbol_len, lead_len}
+use Rattle.backpack_run.specs.Lead.{word_len, symbol_len, lead_len}
 
 -- the symbols are no letters or digits
 no_words : (is_word_char 123 ≡ false) × (is_word_char 125 ≡ false) × (is_word_char 59 ≡ false) × (is_word_char 58 ≡ false) × (is_word_char 61 ≡ false) × (is_word_char 45 ≡ false)

@@ -1,16 +1,15 @@
 -- The flat text of a module that a source spells reads back as the module.
-use Rattle.std.proofs.Common.{refl, sym, ap, ◌∙◌, subst, ◌≡◌, ◌≢◌, ◌⊎◌, inl, inr, ℕ, zero, suc, ◌+◌, ◌-◌, ◌*◌, ◌/◌, ◌%◌, ◌^◌, ◌<◌, ◌≤◌, Bool, true, false, not, ◌&&◌, ◌||◌, ◌==◌, Option, Some, None, unwrap_or, List, [], ◌∷◌, ◌++◌, map, codes, IsTrue, IsPermutation, nat_le, append_assoc, append-nil, arith, if◌then◌else◌}
+use Rattle.std.proofs.Common.{refl, sym, ap, ◌∙◌, subst, ◌≡◌, ◌≢◌, inl, inr, ℕ, zero, suc, ◌+◌, ◌-◌, ◌*◌, ◌/◌, ◌%◌, ◌^◌, ◌<◌, ◌≤◌, Bool, true, false, not, ◌&&◌, ◌||◌, ◌==◌, Option, Some, None, unwrap_or, List, [], ◌∷◌, ◌++◌, map, codes, IsPermutation, nat_le, append_assoc, arith, if◌then◌else◌}
 use Rattle.std.specs.List.{list_all, list_any, flat_map}
 use Rattle.std.proofs.lemmas.List.Sorted.{list_any-IsPermutation}
-use Rattle.std.specs.Option.{option_map}
 use Rattle.std.specs.Fmt.{decimal}
 use Rattle.std.proofs.lemmas.Fmt.{decimal_by_steps}
 use Rattle.std.proofs.lemmas.Bool.Decides.{nat_tests}
-use Rattle.bp_base.specs.Lists.{AreDistinct, IsOnly}
+use Rattle.bp_base.specs.Lists.{AreDistinct}
 use Rattle.bp_base.proofs.Texts.{same_texts}
 use Rattle.backpack_run.specs.Characters.{is_lower, is_upper, is_digit, is_word_char, is_blank, is_text, is_module_name, is_variable_name}
 use Rattle.backpack_run.specs.Lexical.{skip_blanks}
-use Rattle.backpack_run.specs.Source.{value_after, number_of, arrows_then, is_among, atom_of, LeadsType, LeadsClause, LeadsBinding, LeadsItem, AreItems, Spells}
+use Rattle.backpack_run.specs.Source.{value_after, number_of, arrows_then, is_among, atom_of, LeadsBinding, LeadsItem, AreItems, Spells}
 use Rattle.backpack_run.specs.ReadBack.{is_flat_char, starts_flat, is_flat_symbol, LexesFlat, export_tokens, flat_tokens, after_front, plain_token, ReadsBack}
 use Rattle.backpack_run.proofs.Building.{item_shape, first_item}
 use Rattle.backpack_run.proofs.OneReading.{one_reading}

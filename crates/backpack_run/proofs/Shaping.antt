@@ -1,6 +1,5 @@
 -- The tokens of one value stand at the front of others in one way.
-use Rattle.std.proofs.Common.{refl, sym, ap, ◌∙◌, subst, ◌≡◌, ◌≢◌, ◌⊎◌, inl, inr, ℕ, zero, suc, ◌+◌, ◌-◌, ◌<◌, ◌≤◌, Bool, true, false, List, [], ◌∷◌, ◌++◌, length, get_or, take, drop, codes, arith, add-one, length-append}
-use Rattle.std.specs.List.{list_all}
+use Rattle.std.proofs.Common.{refl, sym, ap, ◌∙◌, subst, ◌≡◌, ◌≢◌, inl, inr, ℕ, zero, suc, ◌+◌, ◌-◌, ◌<◌, ◌≤◌, false, List, [], ◌∷◌, ◌++◌, length, get_or, take, drop, codes, arith, add-one, length-append}
 use Rattle.std.proofs.lemmas.List.{take-append-drop, take_rest}
 use Rattle.backpack_run.specs.Source.{arrows_then, LeadsType}
 use Rattle.backpack_run.specs.Shape.{run_len, first_passes, is_no_equals, is_no_end, LeadsWords, Ends, LeadsShape}

@@ -7,7 +7,6 @@ use Rattle.backpack_run.specs.Lexical.{is_symbol, skip_blanks}
 use Rattle.backpack_run.specs.Source.{AreItems}
 use Rattle.hs_core.specs.Plain.{names_of}
 use Rattle.hs_core.specs.Text.{flat_name}
-use Rattle.hs_core.specs.declared.plain.Binding.{Binding}
 use Rattle.hs_core.specs.declared.plain.PlainModule.{PlainModule}
 
 -- A letter, a digit or a dot. A name with its module before it is one token (Haskell 2010 Report, section 2.4).

@@ -1,5 +1,4 @@
 -- Why a command is refused: a defect of the project, or a limit that the project passes.
-use Rattle.std.specs.Prelude.{ℕ, List}
 use Rattle.bp_base.specs.Texts.{Text}
 use Rattle.bp_base.specs.declared.code.Code.{Code}
 use Rattle.bp_base.specs.declared.code.Which.TheVariants.{FileBytes}

@@ -1,4 +1,4 @@
-use Rattle.std.proofs.Common.{◌≡◌, inl, inr, ap, ◌∙◌}
+use Rattle.std.proofs.Common.{inl, inr, ap, ◌∙◌}
 use Rattle.std.proofs.lemmas.Result.{err_from_is_err_and}
 use Rattle.backpack_run.specs.Given.{named_package, listed_module, target_module}
 use Rattle.backpack_run.specs.Refused.{Wrong}
