@@ -1,0 +1,127 @@
+-- Sets of names, and lists in which no name stands twice.
+use Rattle.std.proofs.Common.{refl, sym, ap, ◌∙◌, subst, ◌≡◌, ◌⊎◌, inl, inr, ℕ, Bool, true, false, not, cond, ◌||◌, ◌+◌, ◌<◌, List, [], ◌∷◌, ◌++◌, length, get_or, take, drop}
+use Rattle.std.specs.Str.{bytes_eq}
+use Rattle.std.specs.Ordering.{nat_cmp, is_eq, ordering_reverse}
+use Rattle.std.specs.Cmp.Lexicographic.{slice_cmp}
+use Rattle.std.specs.declared.cmp.Ordering.{Ordering}
+use Rattle.std.specs.declared.cmp.Ordering.TheVariants.{Less, Equal, Greater}
+use Rattle.std.proofs.lemmas.Cmp.{nat_list_cmp_total}
+use Rattle.std.specs.BTreeSet.{BTreeSet, contains}
+use Rattle.std.proofs.lemmas.List.{take-append-drop, drop_more, take_more}
+use Rattle.std.proofs.lemmas.List.Folds.{list_any_more}
+use Rattle.bp_base.specs.Lists.{Among, AreDistinct}
+use Rattle.bp_base.proofs.Texts.{same_texts, other_texts, texts_same, tied_texts, not_before_itself}
+use Rattle.backpack_run.specs.Source.{is_among}
+use Rattle.backpack_run.specs.Shape.{Holds}
+
+-- the test by the order is the test by the bytes
+pub tied_same : (a b : List ℕ) → is_eq (slice_cmp nat_cmp a b) ≡ bytes_eq b a
+tied_same a b = by_cases (slice_cmp nat_cmp a b) refl (bytes_eq b a) refl
+  where
+    by_cases : (o : Ordering) → slice_cmp nat_cmp a b ≡ o → (t : Bool) → bytes_eq b a ≡ t → is_eq o ≡ t
+    by_cases Equal e true f = refl
+    by_cases Equal e false f = absurd (other_texts b a f (sym (tied_texts a b e)))
+    by_cases Less e false f = refl
+    by_cases Less e true f =
+        let s : b ≡ a = same_texts b a f in
+        let q : slice_cmp nat_cmp a a ≡ Less = ap (slice_cmp nat_cmp a) (sym s) ∙ e in
+        absurd (not_before_itself a q)
+    by_cases Greater e false f = refl
+    by_cases Greater e true f =
+        let s : b ≡ a = same_texts b a f in
+        let q : slice_cmp nat_cmp a a ≡ Greater = ap (slice_cmp nat_cmp a) (sym s) ∙ e in
+        absurd (not_before_itself a (nat_list_cmp_total.antisymm a a ∙ ap ordering_reverse q))
+
+pub is_among-there : (name : List ℕ) (names : List (List ℕ)) → is_among name names ≡ true → Among name names
+is_among-there name [] e = absurd (cc e)
+is_among-there name (x ∷ xs) e = by_cases (bytes_eq name x) refl (is_among-there name xs)
+  where
+    by_cases : (t : Bool) → bytes_eq name x ≡ t → (is_among name xs ≡ true → Among name xs) → Among name (x ∷ xs)
+    by_cases true f more = inl (sym (same_texts name x f))
+    by_cases false f more = inr (more (rw f at e))
+
+pub there-is_among : (name : List ℕ) (names : List (List ℕ)) → Among name names → is_among name names ≡ true
+there-is_among name [] h = absurd h
+there-is_among name (x ∷ xs) (inl e) = rw e (ap (λ (t : Bool). t || is_among name xs) (texts_same name))
+there-is_among name (x ∷ xs) (inr h) = by_cases (bytes_eq name x) refl (there-is_among name xs h)
+  where
+    by_cases : (t : Bool) → bytes_eq name x ≡ t → is_among name xs ≡ true → is_among name (x ∷ xs) ≡ true
+    by_cases true f more = rw f refl
+    by_cases false f more = rw f more
+
+pub among-front : {A : Type 0} (a x : A) (xs ys : List A) → Among a xs → Among a (xs ++ ys)
+among-front a x [] ys h = absurd h
+among-front a x (z ∷ zs) ys (inl e) = inl e
+among-front a x (z ∷ zs) ys (inr h) = inr (among-front a x zs ys h)
+
+pub among-middle : {A : Type 0} (x : A) (xs ys : List A) → Among x (xs ++ x ∷ ys)
+among-middle x [] ys = inl refl
+among-middle x (z ∷ zs) ys = inr (among-middle x zs ys)
+
+among-push : {A : Type 0} (a x : A) (xs : List A) → Among a (xs ++ x ∷ []) → Among a xs ⊎ (x ≡ a)
+among-push a x [] (inl e) = inr e
+among-push a x [] (inr h) = absurd h
+among-push a x (z ∷ zs) (inl e) = inl (inl e)
+among-push a x (z ∷ zs) (inr h) = elim (among-push a x zs h) [ inl k ↦ inl (inr k) | inr e ↦ inr e ]
+
+-- one more that was not there
+pub distinct-push : {A : Type 0} (xs : List A) (x : A) → AreDistinct xs → (Among x xs → ⊥) → AreDistinct (xs ++ x ∷ [])
+distinct-push [] x d n = (λ h. h, d)
+distinct-push (z ∷ zs) x d n =
+    (λ h. elim (among-push z x zs h) [ inl k ↦ d.0 k | inr e ↦ n (inl (sym e)) ], distinct-push zs x d.1 (λ h. n (inr h)))
+
+-- what stands before stands twice
+pub distinct-twice : {A : Type 0} (xs ys : List A) (x : A) → Among x xs → AreDistinct (xs ++ x ∷ ys) → ⊥
+distinct-twice [] ys x h d = absurd h
+distinct-twice (z ∷ zs) ys x (inl e) d = d.0 (subst (λ (y : _). Among y (zs ++ x ∷ ys)) (sym e) (among-middle x zs ys))
+distinct-twice (z ∷ zs) ys x (inr h) d = distinct-twice zs ys x h d.1
+
+-- names before the one at a place, and the one
+pub split_at : (xs : List (List ℕ)) (i : ℕ) (x : List ℕ) → i < length xs → x ≡ get_or xs i x → xs ≡ take i xs ++ x ∷ drop (i + 1) xs
+split_at xs i x h e = sym (take-append-drop i xs) ∙ ap (λ (t : List (List ℕ)). take i xs ++ t) (drop_more xs i x h ∙ ap (λ (y : List ℕ). y ∷ drop (i + 1) xs) (sym e))
+
+-- a name that the set holds already stands twice
+pub twice : (names : List (List ℕ)) (i : ℕ) (item name : List ℕ) (set : BTreeSet (List ℕ)) (added : Bool) → i < length names → item ≡ get_or names i item
+    → name ≡ item → Holds set (take i names) → added ≡ not (contains (slice_cmp nat_cmp) set name) → added ≡ false → AreDistinct names → ⊥
+twice names i item name set added h e same holds a f d =
+    distinct-twice (take i names) (drop (i + 1) names) item
+    (is_among-there item (take i names) (subst (λ (n : List ℕ). is_among n (take i names) ≡ true) same (sym (holds name) ∙ held (contains (slice_cmp nat_cmp) set name) (sym a ∙ f))))
+    (subst AreDistinct (split_at names i item h e) d)
+  where
+    held : (c : Bool) → not c ≡ false → c ≡ true
+    held true g = refl
+    held false g = absurd (cc g)
+
+-- a name that is new to the set
+pub set_more : (names : List (List ℕ)) (i : ℕ) (item name : List ℕ) (old new : BTreeSet (List ℕ)) (added : Bool) → i < length names → item ≡ get_or names i item
+    → name ≡ item → ((q : List ℕ) → contains (slice_cmp nat_cmp) new q ≡ cond (is_eq (slice_cmp nat_cmp name q)) true (contains (slice_cmp nat_cmp) old q))
+    → added ≡ not (contains (slice_cmp nat_cmp) old name) → added ≡ true
+    → Holds old (take i names) × AreDistinct (take i names) → Holds new (take (i + 1) names) × AreDistinct (take (i + 1) names)
+set_more names i item name old new added h e same up a t (holds, d) = (holding, subst AreDistinct (sym one_more) (distinct-push (take i names) item d fresh))
+  where
+    one_more : take (i + 1) names ≡ take i names ++ item ∷ []
+    one_more = take_more names i item h ∙ ap (λ (y : List ℕ). take i names ++ y ∷ []) (sym e)
+
+    out : (c : Bool) → not c ≡ true → c ≡ false
+    out true g = absurd (cc g)
+    out false g = refl
+
+    fresh : Among item (take i names) → ⊥
+    fresh k =
+        let there : is_among name (take i names) ≡ true = subst (λ (n : List ℕ). is_among n (take i names) ≡ true) (sym same) (there-is_among item (take i names) k) in
+        let absent : contains (slice_cmp nat_cmp) old name ≡ false = out (contains (slice_cmp nat_cmp) old name) (sym a ∙ t) in
+        cc (there, absent, holds name)
+
+    pick : (x y : Bool) → cond x true y ≡ y || x
+    pick true true = refl
+    pick true false = refl
+    pick false true = refl
+    pick false false = refl
+
+    last : (q : List ℕ) → is_among q (take (i + 1) names) ≡ is_among q (take i names) || bytes_eq q item
+    last q = list_any_more (bytes_eq q) names i item h ∙ ap (λ (y : List ℕ). is_among q (take i names) || bytes_eq q y) (sym e)
+
+    holding : Holds new (take (i + 1) names)
+    holding q =
+        up q ∙ (pick (is_eq (slice_cmp nat_cmp name q)) (contains (slice_cmp nat_cmp) old q)
+        ∙ ((λ j. holds q j || tied_same name q j) ∙ (ap (λ (y : List ℕ). is_among q (take i names) || bytes_eq q y) same ∙ sym (last q))))

@@ -1,0 +1,10 @@
+use Rattle.backpack_run.specs.Source.{atom_of}
+use Rattle.backpack_run.proofs.Building.{no_atom}
+use Rattle.backpack_run.proofs.reader.atoms_of.Goals as goal
+
+pub returns-in_default : goal.returns-in_default
+returns-in_default c =
+    λ names h atoms e.
+    let a = c.in_ok-atom.ensures names h in
+    no_atom (atom_of names) c.args.words.now atoms c.loop-word.word-index c.word-item.result c.loop-word-test.true c.word-item.is
+    (cc (a, c.in_default.is, c.as_bytes.ensures)) e

@@ -1,0 +1,10 @@
+use Rattle.std.proofs.Common.{length}
+use Rattle.bp_base.specs.Lists.{SoFar}
+use Rattle.backpack_run.proofs.Building.{Items}
+use Rattle.backpack_run.proofs.reader.bindings_of.Given as goal
+
+abbrev pub invariant-loop-shape : goal.invariant-loop-shape
+invariant-loop-shape l = SoFar Items l.tokens l.rest l.bindings
+
+abbrev pub decreases-loop-shape : goal.decreases-loop-shape
+decreases-loop-shape l = length l.rest

@@ -1,0 +1,13 @@
+//! Modules as they are after their names are resolved, and the text of a flat module.
+//!
+//! Today this is the plain form alone: a module without imports, all of whose values have types made of `Int` and arrows.
+#![tactic(auto)]
+
+mod plain;
+mod print;
+
+pub use plain::{Atom, Atoms, Binding, Bindings, PlainModule};
+pub use print::print_module;
+
+#[cfg(test)]
+mod tests;
