@@ -4,3 +4,4 @@ pub mod Levels
 pub mod Capitals
 pub mod Pieces
 pub mod Covers
+pub mod Uniqueness
