@@ -1,6 +1,6 @@
 -- Names that begin with a capital letter, and qualified names.
-use Rattle.std.proofs.Common.{◌≡◌, ℕ, zero, suc, ◌+◌, ◌-◌, ◌<◌, ◌≤◌, Bool, true, false, List, [], ◌∷◌, length, take, drop, refl, sym, ap, ◌∙◌, subst, true≢false, arith, Option, Some, None, cond, add-one}
-use Rattle.std.specs.Prelude.{not, ◌&&◌, ◌||◌, ◌==◌, nat_le, if◌then◌else◌}
+use Rattle.std.proofs.Common.{◌≡◌, ℕ, suc, ◌+◌, ◌≤◌, Bool, true, false, List, [], ◌∷◌, length, take, drop, refl, sym, ap, ◌∙◌, subst, arith, None, cond, add-one}
+use Rattle.std.specs.Prelude.{not, ◌&&◌, ◌==◌}
 use Rattle.std.specs.List.{prefix_len}
 use Rattle.std.proofs.lemmas.Bool.Decides.{nat_tests}
 use Rattle.hs_syntax.specs.declared.token.TokenKind.TheVariants as t
@@ -9,14 +9,13 @@ use Rattle.hs_lex.specs.declared.class.Start.{Start}
 use Rattle.hs_lex.specs.declared.class.Start.TheVariants as s
 use Rattle.hs_lex.specs.declared.kind.Kind.{Kind}
 use Rattle.hs_lex.specs.declared.kind.Kind.TheVariants as k
-use Rattle.hs_lex.specs.declared.kind.Part.TheVariants as p
-use Rattle.hs_lex.specs.Classes.{from_to, is_in, all, begins, is_empty, start_of}
+use Rattle.hs_lex.specs.Classes.{from_to, is_in, all, begins, start_of}
 use Rattle.hs_lex.specs.Words.{operator, is_plain_word, is_plain_symbol}
 use Rattle.hs_lex.specs.Numbers.{only}
-use Rattle.hs_lex.specs.Lexicon.{capital, last_part}
+use Rattle.hs_lex.specs.Lexicon.{capital}
 use Rattle.hs_lex.specs.Longest.{Spelling, Longest, Never}
-use Rattle.hs_lex.specs.Parts.{last_by, IsLast, IsMore, IsPart}
-use Rattle.hs_lex.proofs.Runs.{and_false, all_prefix, all_past, whole_run, run_ends, ahead_longest, here_longest, end_longest, never_ahead, never_end, over_longest, prefix_no}
+use Rattle.hs_lex.specs.Parts.{last_by, IsMore}
+use Rattle.hs_lex.proofs.Runs.{all_prefix, all_past, whole_run, run_ends, ahead_longest, here_longest, end_longest, never_ahead, never_end, over_longest}
 
 -- a whole run of a class, with a test of it all
 abbrev pub whole : (ℕ → Bool) → (List ℕ → Bool) → (List ℕ → Kind) → ℕ → Spelling Kind
@@ -27,8 +26,8 @@ whole_longest : (f : ℕ → Bool) (plain : List ℕ → Bool) (h : List ℕ →
 whole_longest f plain h b bs n is le ok = record {
   within = le;
   spelled = ap (λ v. only ((v && not (begins f (drop n bs))) && plain (b ∷ take n bs)) (h (b ∷ take n bs))) (ap (λ m. all f (take m bs)) is ∙ all_prefix f bs)
-    ∙ ap (λ v. only (not v && plain (b ∷ take n bs)) (h (b ∷ take n bs))) (ap (λ m. begins f (drop m bs)) is ∙ run_ends f bs)
-    ∙ ap (λ v. only v (h (b ∷ take n bs))) ok;
+      ∙ ap (λ v. only (not v && plain (b ∷ take n bs)) (h (b ∷ take n bs))) (ap (λ m. begins f (drop m bs)) is ∙ run_ends f bs)
+      ∙ ap (λ v. only v (h (b ∷ take n bs))) ok;
   longest = λ m le' lt. ap (λ v. only ((v && not (begins f (drop m bs))) && plain (b ∷ take m bs)) (h (b ∷ take m bs))) (all_past f bs m le' (omega arith));
 }
 
@@ -68,7 +67,7 @@ pub symbol_last : (b : ℕ) (bs text word : List ℕ) (n : ℕ) (kind : Kind) �
 symbol_last b bs text word n kind at e is le w ok is_kind =
     subst (λ s. Longest (last_by s b) bs kind n) e
     (subst (λ x. Longest (last_by s.Symbol b) bs x n) (sym (is_kind ∙ ap operator (w ∙ front_is n text b bs at)))
-      (whole_longest (is_in c.Symbol) is_plain_symbol operator b bs n is le (sym (ok ∙ ap is_plain_symbol (w ∙ front_is n text b bs at)))))
+    (whole_longest (is_in c.Symbol) is_plain_symbol operator b bs n is le (sym (ok ∙ ap is_plain_symbol (w ∙ front_is n text b bs at)))))
 
 pub symbol_never : (b : ℕ) (bs text word : List ℕ) (n : ℕ) → text ≡ b ∷ bs → s.Symbol ≡ start_of b → n ≡ prefix_len (is_in c.Symbol) bs →
     word ≡ take (n + 1) text → false ≡ is_plain_symbol word → Never (last_by (start_of b) b) bs
@@ -109,9 +108,9 @@ pub ends_other : (bs : List ℕ) (b : ℕ) (tail : List ℕ) → bs ≡ b ∷ ta
 ends_other bs b tail at plain ne =
     subst (λ l. Longest (capital false) l (k.Token t.Con) 0) (sym at)
     (here_longest (capital false) (λ ys r. None) b tail (k.Token t.Con)
-      (λ ys r. ap (λ v. cond v (capital false ys r) (cond (b == 46) (capital true ys r) None)) (sym (ap (begins (is_in c.Name)) at) ∙ plain)
-        ∙ ap (λ v. cond v (capital true ys r) None) (let no : (b == 46) ≡ false = grind (arith, nat_tests) in no))
-      refl (λ m le. refl))
+    (λ ys r. ap (λ v. cond v (capital false ys r) (cond (b == 46) (capital true ys r) None)) (sym (ap (begins (is_in c.Name)) at) ∙ plain)
+    ∙ ap (λ v. cond v (capital true ys r) None) (let no : (b == 46) ≡ false = grind (arith, nat_tests) in no))
+    refl (λ m le. refl))
 
 pub ends_dot : (bs tail : List ℕ) (b : ℕ) → bs ≡ b ∷ tail → b ≡ 46 → length tail ≡ 0 → Longest (capital false) bs (k.Token t.Con) 0
 ends_dot bs (x ∷ tail) b at is e = absurd (omega arith)
@@ -129,7 +128,7 @@ pub ends_never : (bs tail rest : List ℕ) (b d : ℕ) → bs ≡ b ∷ tail →
 ends_never bs tail rest b d at is and small none =
     subst (λ l. Longest (capital false) l (k.Token t.Con) 0) (sym (at ∙ ap (λ v. v ∷ tail) is))
     (here_longest (capital false) (capital true) 46 tail (k.Token t.Con) (λ ys r. refl) refl
-      (subst (Never (capital true)) (sym and) (never_ahead (capital true) (last_by (start_of d) d) d rest (λ ys r. part_small d ys r small) refl none)))
+    (subst (Never (capital true)) (sym and) (never_ahead (capital true) (last_by (start_of d) d) d rest (λ ys r. part_small d ys r small) refl none)))
 
 pub ends_last : (bs tail rest : List ℕ) (b d : ℕ) (kind : Kind) (n : ℕ) → bs ≡ b ∷ tail → b ≡ 46 → tail ≡ d ∷ rest → from_to 65 90 d ≡ false →
     Longest (last_by (start_of d) d) rest kind n → Longest (capital false) bs kind (n + 2)
@@ -137,8 +136,8 @@ ends_last bs tail rest b d kind n at is and small l =
     let two : suc (suc n) ≡ n + 2 = omega arith in
     subst (λ m. Longest (capital false) bs kind m) two
     (dotted bs tail b kind (suc n) at is
-      (subst (λ l. Longest (capital true) l kind (suc n)) (sym and)
-        (ahead_longest (capital true) (last_by (start_of d) d) d rest kind n (λ ys r. part_small d ys r small) l)))
+    (subst (λ l. Longest (capital true) l kind (suc n)) (sym and)
+    (ahead_longest (capital true) (last_by (start_of d) d) d rest kind n (λ ys r. part_small d ys r small) l)))
 
 pub ends_more : (bs tail rest : List ℕ) (b d n : ℕ) → bs ≡ b ∷ tail → b ≡ 46 → tail ≡ d ∷ rest → from_to 65 90 d ≡ true → n ≡ prefix_len (is_in c.Name) rest → n ≤ length rest →
     IsMore bs (n + 2)
@@ -150,15 +149,15 @@ ends_more bs tail rest b d n at is and large run le =
       some = omega arith;
       whole = ap (begins (is_in c.Name)) (behind ∙ ap (λ m. drop m rest) run) ∙ run_ends (is_in c.Name) rest;
       joins = λ kind m l.
-        let inner : Longest (capital false) rest kind (n + m) =
-            subst (λ i. Longest (capital false) rest kind (i + m)) (sym run)
-            (over_longest (is_in c.Name) (capital false) rest kind m (λ b ys r e. part_name b ys r e)
-              (subst (λ i. Longest (capital false) (drop i rest) kind m) run (subst (λ l. Longest (capital false) l kind m) behind l))) in
-        let more : suc (suc (n + m)) ≡ n + 2 + m = omega arith in
-        subst (λ i. Longest (capital false) bs kind i) more
-        (dotted bs tail b kind (suc (n + m)) at is
+          let inner : Longest (capital false) rest kind (n + m) =
+          subst (λ i. Longest (capital false) rest kind (i + m)) (sym run)
+          (over_longest (is_in c.Name) (capital false) rest kind m (λ b ys r e. part_name b ys r e)
+          (subst (λ i. Longest (capital false) (drop i rest) kind m) run (subst (λ l. Longest (capital false) l kind m) behind l))) in
+          let more : suc (suc (n + m)) ≡ n + 2 + m = omega arith in
+          subst (λ i. Longest (capital false) bs kind i) more
+          (dotted bs tail b kind (suc (n + m)) at is
           (subst (λ l. Longest (capital true) l kind (suc (n + m))) (sym and)
-            (ahead_longest (capital true) (capital false) d rest kind (n + m) (λ ys r. part_large d ys r large) inner)));
+          (ahead_longest (capital true) (capital false) d rest kind (n + m) (λ ys r. part_large d ys r large) inner)));
     }
 
 -- the parts so far
@@ -169,7 +168,7 @@ pub ahead_first : (bs left : List ℕ) (n : ℕ) → n ≡ prefix_len (is_in c.N
 ahead_first bs left n is at = λ kind m l.
     subst (λ i. Longest (capital false) bs kind (i + m)) (sym is)
     (over_longest (is_in c.Name) (capital false) bs kind m (λ b ys r e. part_name b ys r e)
-      (subst (λ l. Longest (capital false) l kind m) (at ∙ ap (λ i. drop i bs) is) l))
+    (subst (λ l. Longest (capital false) l kind m) (at ∙ ap (λ i. drop i bs) is) l))
 
 pub ahead_more : (bs left left' : List ℕ) (len n : ℕ) → Ahead bs left len → IsMore left n → left' ≡ drop n left → Ahead bs left' (len + n)
 ahead_more bs left left' len n ahead more at = λ kind m l.

@@ -1,8 +1,6 @@
 -- The pieces so far, and that one list of pieces covers a text.
-use Rattle.std.proofs.Common.{◌≡◌, ◌≢◌, ℕ, zero, suc, ◌+◌, ◌<◌, ◌≤◌, Bool, true, false, List, [], ◌∷◌, ◌++◌, length, take, drop, refl, sym, ap, ◌∙◌, subst, append_assoc, arith, Option, Some, None, Result, Ok, Err, cond, length-append, length-drop, length-take}
-use Rattle.std.specs.Prelude.{◌&&◌, nat_le}
-use Rattle.std.specs.List.{fold}
-use Rattle.std.proofs.lemmas.Bool.Decides.{nat_tests}
+use Rattle.std.proofs.Common.{◌≡◌, ℕ, ◌+◌, ◌<◌, Bool, true, List, [], ◌∷◌, ◌++◌, length, take, drop, refl, sym, ap, ◌∙◌, subst, append_assoc, arith, Err, length-append}
+use Rattle.std.specs.Prelude.{◌&&◌}
 use Rattle.std.proofs.lemmas.List.{append-nil, take-append-drop}
 use Rattle.std.proofs.lemmas.List.Sums.{fold-append}
 use Rattle.hs_syntax.specs.declared.token.Token.{Token}
@@ -12,7 +10,7 @@ use Rattle.hs_lex.specs.declared.reader.LexError.{LexError}
 use Rattle.hs_lex.specs.declared.reader.LexError.TheVariants as e
 use Rattle.hs_lex.specs.Lexicon.{kind_of}
 use Rattle.hs_lex.specs.Longest.{Longest}
-use Rattle.hs_lex.specs.Cover.{Piece, Stands, Cuts, is_sound, are_sound, next_column, column_behind, first_behind, token_of, tokens_of, Covered, Stops, Answers, Refuses, Takes}
+use Rattle.hs_lex.specs.Cover.{Piece, Cuts, is_sound, are_sound, next_column, column_behind, first_behind, token_of, tokens_of, Covered, Stops, Answers, Refuses}
 
 -- The pieces before what is left, and the tokens that they gave.
 pub record SoFar (bytes left : List ℕ) (tokens : List Token) (offset column : ℕ) (first : Bool) : Type 0 where
@@ -50,22 +48,22 @@ so_far_more bytes left left' text tokens tokens' offset offset' column column' f
       pieces = s.pieces ++ p ∷ [];
       before = s.before ++ text;
       split = ap (λ l. (s.before ++ text) ++ l) d ∙ append_assoc s.before text (drop n left) ∙ ap (λ l. s.before ++ (l ++ drop n left)) t
-        ∙ ap (λ l. s.before ++ l) (take-append-drop n left) ∙ s.split;
+          ∙ ap (λ l. s.before ++ l) (take-append-drop n left) ∙ s.split;
       place = off ∙ ap (λ m. m + length text) s.place ∙ sym (length-append s.before text);
       level = col ∙ ap (λ m. column_behind m text) s.level ∙ sym (fold-append next_column 1 s.before text);
       cuts = λ qs rest h.
-        subst (λ l. Cuts l bytes rest) (sym (append_assoc s.pieces (p ∷ []) qs))
-        (s.cuts (p ∷ qs) rest (record { some = some; longest = longest }, subst (λ l. Cuts qs l rest) d h));
+          subst (λ l. Cuts l bytes rest) (sym (append_assoc s.pieces (p ∷ []) qs))
+          (s.cuts (p ∷ qs) rest (record { some = some; longest = longest }, subst (λ l. Cuts qs l rest) d h));
       sound = λ qs h. ap are_sound (append_assoc s.pieces (p ∷ []) qs) ∙ s.sound (p ∷ qs) (one_sound kind n qs ok h);
       told = λ qs.
-        ap (λ l. tokens_of [] true l bytes) (append_assoc s.pieces (p ∷ []) qs) ∙ s.told (p ∷ qs)
-        ∙ ap (λ l. tokens ++ (token_of kind l (length s.before) (column_behind 1 s.before) first ++ tokens_of (s.before ++ l) (first_behind first kind l) qs (drop n left))) (sym t)
-        ∙ ap (λ m. tokens ++ (token_of kind text m (column_behind 1 s.before) first ++ tokens_of (s.before ++ text) (first_behind first kind text) qs (drop n left))) (sym s.place)
-        ∙ ap (λ m. tokens ++ (token_of kind text offset m first ++ tokens_of (s.before ++ text) (first_behind first kind text) qs (drop n left))) (sym s.level)
-        ∙ ap (λ m. tokens ++ (token_of kind text offset column first ++ tokens_of (s.before ++ text) m qs (drop n left))) (sym fir)
-        ∙ ap (λ l. tokens ++ (token_of kind text offset column first ++ tokens_of (s.before ++ text) first' qs l)) (sym d)
-        ∙ sym (append_assoc tokens (token_of kind text offset column first) (tokens_of (s.before ++ text) first' qs left'))
-        ∙ ap (λ l. l ++ tokens_of (s.before ++ text) first' qs left') (sym more);
+          ap (λ l. tokens_of [] true l bytes) (append_assoc s.pieces (p ∷ []) qs) ∙ s.told (p ∷ qs)
+          ∙ ap (λ l. tokens ++ (token_of kind l (length s.before) (column_behind 1 s.before) first ++ tokens_of (s.before ++ l) (first_behind first kind l) qs (drop n left))) (sym t)
+          ∙ ap (λ m. tokens ++ (token_of kind text m (column_behind 1 s.before) first ++ tokens_of (s.before ++ text) (first_behind first kind text) qs (drop n left))) (sym s.place)
+          ∙ ap (λ m. tokens ++ (token_of kind text offset m first ++ tokens_of (s.before ++ text) (first_behind first kind text) qs (drop n left))) (sym s.level)
+          ∙ ap (λ m. tokens ++ (token_of kind text offset column first ++ tokens_of (s.before ++ text) m qs (drop n left))) (sym fir)
+          ∙ ap (λ l. tokens ++ (token_of kind text offset column first ++ tokens_of (s.before ++ text) first' qs l)) (sym d)
+          ∙ sym (append_assoc tokens (token_of kind text offset column first) (tokens_of (s.before ++ text) first' qs left'))
+          ∙ ap (λ l. l ++ tokens_of (s.before ++ text) first' qs left') (sym more);
     }
 
 pub so_far_all : (bytes left : List ℕ) (tokens : List Token) (offset column : ℕ) (first : Bool) → SoFar bytes left tokens offset column first → length left ≡ 0 → Covered bytes tokens

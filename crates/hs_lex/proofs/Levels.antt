@@ -1,6 +1,6 @@
 -- The steps of a nested comment and of a string.
-use Rattle.std.proofs.Common.{◌≡◌, ℕ, zero, suc, ◌+◌, ◌-◌, ◌<◌, ◌≤◌, Bool, true, false, List, [], ◌∷◌, length, drop, refl, sym, ap, ◌∙◌, subst, arith, Option, Some, None, cond, zero-add}
-use Rattle.std.specs.Prelude.{◌&&◌, ◌==◌, if◌then◌else◌}
+use Rattle.std.proofs.Common.{◌≡◌, ℕ, zero, suc, ◌+◌, ◌-◌, ◌<◌, ◌≤◌, Bool, true, false, List, [], ◌∷◌, length, drop, refl, sym, ap, ◌∙◌, arith, Option, Some, None, cond, zero-add}
+use Rattle.std.specs.Prelude.{◌&&◌, ◌==◌}
 use Rattle.std.proofs.lemmas.Bool.Decides.{nat_tests}
 use Rattle.hs_lex.specs.Lexicon.{nested_len, checked}
 use Rattle.hs_lex.specs.declared.kind.Kind.{Kind}
@@ -47,7 +47,6 @@ level_short zero len o bs lt short e = absurd (omega arith)
 level_short (suc n) len o [] lt short e = e
 level_short (suc n) len o (b ∷ []) lt short e = e
 level_short (suc n) len o (b ∷ c ∷ bs) lt short e = absurd (omega arith)
-
 
 pub more_none : (o : Option ℕ) → more_by 0 o ≡ o
 more_none None = refl

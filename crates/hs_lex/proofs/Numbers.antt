@@ -1,6 +1,6 @@
 -- Numbers.
-use Rattle.std.proofs.Common.{◌≡◌, ℕ, zero, suc, ◌+◌, ◌*◌, ◌<◌, ◌≤◌, Bool, true, false, List, [], ◌∷◌, ◌++◌, length, take, drop, refl, sym, ap, ◌∙◌, subst, arith, Option, Some, None, cond, add-one, ◌-◌, length-drop}
-use Rattle.std.specs.Prelude.{not, ◌&&◌, ◌||◌, ◌==◌, nat_le, if◌then◌else◌}
+use Rattle.std.proofs.Common.{◌≡◌, ℕ, zero, suc, ◌+◌, ◌*◌, ◌<◌, ◌≤◌, Bool, true, false, List, [], ◌∷◌, length, take, drop, refl, sym, ap, ◌∙◌, subst, arith, Option, Some, None, cond, add-one, ◌-◌, length-drop}
+use Rattle.std.specs.Prelude.{◌&&◌, ◌==◌, nat_le}
 use Rattle.std.specs.List.{prefix_len, fold}
 use Rattle.std.proofs.Math.Nat.{mul-le-mul_left}
 use Rattle.std.proofs.lemmas.Bool.Decides.{nat_tests}
@@ -8,10 +8,10 @@ use Rattle.std.proofs.lemmas.List.Sums.{prefix_len-le-length}
 use Rattle.hs_lex.specs.declared.class.Class.TheVariants as c
 use Rattle.hs_lex.specs.declared.kind.Form.{Form}
 use Rattle.hs_lex.specs.declared.kind.Form.TheVariants as f
-use Rattle.hs_lex.specs.Classes.{is_in, all, begins, is_empty}
-use Rattle.hs_lex.specs.Numbers.{only, is_run, run_as, is_hexadecimal_letter, is_octal_letter, one_more, value_of, is_exponent_letter, is_sign, exponent, fraction, decimal, behind_zero, numeral}
+use Rattle.hs_lex.specs.Classes.{is_in, all, begins}
+use Rattle.hs_lex.specs.Numbers.{only, is_run, run_as, is_hexadecimal_letter, is_octal_letter, one_more, is_exponent_letter, is_sign, exponent, fraction, decimal, behind_zero}
 use Rattle.hs_lex.specs.Longest.{Spelling, Longest, Never, Finds, alone}
-use Rattle.hs_lex.proofs.Runs.{run_longest, ahead_longest, here_longest, end_longest, never_ahead, never_end, over_longest, prefix_stop, prefix_yes, prefix_no, all_prefix, all_past, run_ends}
+use Rattle.hs_lex.proofs.Runs.{run_longest, ahead_longest, here_longest, end_longest, never_ahead, never_end, over_longest, prefix_yes, prefix_no, all_past, run_ends}
 
 pub prefix_le : (f : ℕ → Bool) (bs : List ℕ) → prefix_len f bs ≤ length bs
 prefix_le f bs = prefix_len-le-length f bs
@@ -25,8 +25,8 @@ run_found class form (b ∷ bs) lt = go (class b) refl
     go true is =
         subst (λ n. Longest (alone (run_as class form)) (b ∷ bs) form n) (sym (prefix_yes class b bs is))
         (ahead_longest (alone (run_as class form)) (λ ys r. only (all class ys) form) b bs form (prefix_len class bs)
-          (λ ys r. ap (λ v. only (v && all class ys) form) is)
-          (run_longest class (λ ys r. only (all class ys) form) (λ ys. form) bs (prefix_len class bs) refl (le bs) (λ ys r. refl)))
+        (λ ys r. ap (λ v. only (v && all class ys) form) is)
+        (run_longest class (λ ys r. only (all class ys) form) (λ ys. form) bs (prefix_len class bs) refl (le bs) (λ ys r. refl)))
       where
         le : (bs : List ℕ) → prefix_len class bs ≤ length bs
         le bs = prefix_le class bs
@@ -72,6 +72,7 @@ exponent_else b tail bs r at e h = subst (λ l. Finds (alone exponent) l f.Float
     by : (m : ℕ) → exponent (take m (b ∷ tail)) ≡ run_as (is_in c.Digit) f.Floating (take m (b ∷ tail))
     by zero = refl
     by (suc m) = ap (λ v. cond v (run_as (is_in c.Digit) f.Floating (take m tail)) (run_as (is_in c.Digit) f.Floating (b ∷ take m tail))) e
+
     go : (r : Option ℕ) → Finds (alone (run_as (is_in c.Digit) f.Floating)) (b ∷ tail) f.Floating r → Finds (alone exponent) (b ∷ tail) f.Floating r
     go None h = λ m le. by m ∙ h m le
     go (Some n) h = same_longest (alone exponent) (alone (run_as (is_in c.Digit) f.Floating)) (b ∷ tail) f.Floating n by h
@@ -98,7 +99,7 @@ pub digits_then : (g : List ℕ → Option Form) (bs : List ℕ) (n : ℕ) (x : 
 digits_then g bs n x k is by l =
     subst (λ m. Longest (alone g) bs x (m + k)) (sym is)
     (over_longest (is_in c.Digit) (alone g) bs x k (λ b ys r e. by b ys e)
-      (subst (λ m. Longest (alone g) (drop m bs) x k) is (subst (λ l. Longest (alone g) l x k) (rest_from n bs) l)))
+    (subst (λ m. Longest (alone g) (drop m bs) x k) is (subst (λ l. Longest (alone g) l x k) (rest_from n bs) l)))
 
 pub digits_end : (bs : List ℕ) (n : ℕ) → n ≡ prefix_len (is_in c.Digit) bs → begins (is_in c.Digit) (take (length bs - n) (drop n bs)) ≡ false
 digits_end bs n is = ap (begins (is_in c.Digit)) (rest_from n bs) ∙ ap (λ m. begins (is_in c.Digit) (drop m bs)) is ∙ run_ends (is_in c.Digit) bs
@@ -119,6 +120,7 @@ fraction_found (b ∷ bs) n k is some l =
     at : is_in c.Digit b ≡ true → (m : ℕ) → 0 < m → fraction false (take m (b ∷ bs)) ≡ fraction true (take m (b ∷ bs))
     at e zero lt = absurd (omega arith)
     at e (suc m) lt = fraction_digit false b (take m bs) e ∙ sym (fraction_digit true b (take m bs) e)
+
     go : (v : Bool) → is_in c.Digit b ≡ v → Longest (alone (fraction true)) (b ∷ bs) f.Floating (n + k) → Longest (alone (fraction false)) (b ∷ bs) f.Floating (n + k)
     go false e l = absurd (some (is ∙ prefix_no (is_in c.Digit) b bs e))
     go true e l = record {

@@ -1,6 +1,6 @@
 -- The pieces that begin with a byte, over plain variables.
-use Rattle.std.proofs.Common.{◌≡◌, ℕ, zero, suc, ◌+◌, ◌-◌, ◌<◌, ◌≤◌, Bool, true, false, List, [], ◌∷◌, ◌++◌, length, take, drop, refl, sym, ap, ◌∙◌, subst, arith, Option, Some, None, cond, add-one, le_refl}
-use Rattle.std.specs.Prelude.{not, ◌&&◌, ◌||◌, ◌==◌, nat_le, option_map, if◌then◌else◌}
+use Rattle.std.proofs.Common.{◌≡◌, ℕ, ◌+◌, ◌≤◌, true, false, List, [], ◌∷◌, ◌++◌, length, take, drop, refl, sym, ap, ◌∙◌, subst, arith, Option, Some, None, cond, add-one, le_refl}
+use Rattle.std.specs.Prelude.{◌==◌, option_map}
 use Rattle.std.specs.List.{prefix_len}
 use Rattle.std.proofs.lemmas.Bool.Decides.{nat_tests}
 use Rattle.std.proofs.lemmas.List.{take-append-drop}
@@ -16,7 +16,7 @@ use Rattle.hs_lex.specs.Words.{word_kind, symbol_kind}
 use Rattle.hs_lex.specs.Numbers.{only, numeral, number_kind}
 use Rattle.hs_lex.specs.Literals.{more_by, string_len, char_len}
 use Rattle.hs_lex.specs.Lexicon.{checked, is_dashed, symbolic, nested_len, comment_len, commented, braced, quoted, kind_by, kind_of}
-use Rattle.hs_lex.specs.Longest.{Spelling, Longest, Never, alone}
+use Rattle.hs_lex.specs.Longest.{Spelling, Longest, alone}
 use Rattle.hs_lex.proofs.Runs.{run_longest, fixed_longest, one_longest, ahead_longest}
 use Rattle.hs_lex.proofs.Capitals.{front_is}
 
@@ -54,18 +54,18 @@ pub comment_stands : (b : ℕ) (bs text word : List ℕ) (n : ℕ) (kind : Kind)
 comment_stands b bs text word n kind at w is dashed run le =
     of_word (symbolic b) (λ w. checked w k.Comment) b bs text word n kind at w is
     (fixed_longest (symbolic b) (λ ys. checked (b ∷ ys) k.Comment) bs n le
-      (λ ys r e. ap (λ l. cond (is_dashed b l) (only (length ys == prefix_len (is_in c.Line) l) (checked (b ∷ ys) k.Comment)) (only (all (is_in c.Symbol) ys) (symbol_kind (b ∷ ys)))) e
-        ∙ ap (λ v. cond v (only (length ys == prefix_len (is_in c.Line) bs) (checked (b ∷ ys) k.Comment)) (only (all (is_in c.Symbol) ys) (symbol_kind (b ∷ ys)))) (sym dashed)
-        ∙ ap (λ m. only (length ys == m) (checked (b ∷ ys) k.Comment)) (sym run)))
+    (λ ys r e. ap (λ l. cond (is_dashed b l) (only (length ys == prefix_len (is_in c.Line) l) (checked (b ∷ ys) k.Comment)) (only (all (is_in c.Symbol) ys) (symbol_kind (b ∷ ys)))) e
+    ∙ ap (λ v. cond v (only (length ys == prefix_len (is_in c.Line) bs) (checked (b ∷ ys) k.Comment)) (only (all (is_in c.Symbol) ys) (symbol_kind (b ∷ ys)))) (sym dashed)
+    ∙ ap (λ m. only (length ys == m) (checked (b ∷ ys) k.Comment)) (sym run)))
 
 pub symbol_stands : (b : ℕ) (bs text word : List ℕ) (n : ℕ) (kind : Kind) → text ≡ b ∷ bs → word ≡ take (n + 1) text → kind ≡ symbol_kind word →
     false ≡ is_dashed b bs → n ≡ prefix_len (is_in c.Symbol) bs → n ≤ length bs → Longest (kind_by s.Symbol b) bs kind n
 symbol_stands b bs text word n kind at w is dashed run le =
     of_word (symbolic b) symbol_kind b bs text word n kind at w is
     (split_longest (symbolic b) (λ ys r. only (all (is_in c.Symbol) ys) (symbol_kind (b ∷ ys))) bs (symbol_kind (b ∷ take n bs)) n
-      (λ ys r e. ap (λ l. cond (is_dashed b l) (only (length ys == prefix_len (is_in c.Line) l) (checked (b ∷ ys) k.Comment)) (only (all (is_in c.Symbol) ys) (symbol_kind (b ∷ ys)))) e
-        ∙ ap (λ v. cond v (only (length ys == prefix_len (is_in c.Line) bs) (checked (b ∷ ys) k.Comment)) (only (all (is_in c.Symbol) ys) (symbol_kind (b ∷ ys)))) (sym dashed))
-      (run_longest (is_in c.Symbol) (λ ys r. only (all (is_in c.Symbol) ys) (symbol_kind (b ∷ ys))) (λ ys. symbol_kind (b ∷ ys)) bs n run le (λ ys r. refl)))
+    (λ ys r e. ap (λ l. cond (is_dashed b l) (only (length ys == prefix_len (is_in c.Line) l) (checked (b ∷ ys) k.Comment)) (only (all (is_in c.Symbol) ys) (symbol_kind (b ∷ ys)))) e
+    ∙ ap (λ v. cond v (only (length ys == prefix_len (is_in c.Line) bs) (checked (b ∷ ys) k.Comment)) (only (all (is_in c.Symbol) ys) (symbol_kind (b ∷ ys)))) (sym dashed))
+    (run_longest (is_in c.Symbol) (λ ys r. only (all (is_in c.Symbol) ys) (symbol_kind (b ∷ ys))) (λ ys. symbol_kind (b ∷ ys)) bs n run le (λ ys r. refl)))
 
 -- a brace alone
 pub brace_alone : (b : ℕ) (bs : List ℕ) → begins (is_in c.Dash) bs ≡ false → Longest (kind_by s.Brace b) bs (k.Token t.Special) 0
@@ -94,8 +94,8 @@ nested_stands b bs text word d tail n kind whole w is at dash found le =
     let two : n + 2 ≡ n + 1 + 1 = omega arith in
     of_word (braced b) (λ w. checked w k.Comment) b bs text word (n + 1) kind whole (w ∙ ap (λ m. take m text) two) is
     (fixed_longest (braced b) (λ ys. checked (b ∷ ys) k.Comment) bs (n + 1) (omega (arith, ap length at))
-      (λ ys r e. commented_by b bs d tail (Some n) at dash found ys r e
-        ∙ ap (λ m. only (length ys == m) (checked (b ∷ ys) k.Comment)) (let one : 1 + n ≡ n + 1 = omega arith in one)))
+    (λ ys r e. commented_by b bs d tail (Some n) at dash found ys r e
+    ∙ ap (λ m. only (length ys == m) (checked (b ∷ ys) k.Comment)) (let one : 1 + n ≡ n + 1 = omega arith in one)))
 
 rest_none : (bs : List ℕ) → drop (length bs) bs ≡ []
 rest_none [] = refl
@@ -117,7 +117,7 @@ quoted_some : (f : List ℕ → Option ℕ) (kind' : Kind) (b : ℕ) (bs text wo
 quoted_some f kind' b bs text word n kind at w is found le =
     of_word (λ ys r. quoted (f (ys ++ r)) kind' b ys) (λ w. checked w kind') b bs text word n kind at w is
     (fixed_longest (λ ys r. quoted (f (ys ++ r)) kind' b ys) (λ ys. checked (b ∷ ys) kind') bs n le
-      (λ ys r e. ap (λ o. quoted o kind' b ys) (ap f e ∙ sym found)))
+    (λ ys r e. ap (λ o. quoted o kind' b ys) (ap f e ∙ sym found)))
 
 quoted_none : (f : List ℕ → Option ℕ) (kind' : Kind) (b : ℕ) (bs : List ℕ) → None ≡ f bs → Longest (λ ys r. quoted (f (ys ++ r)) kind' b ys) bs k.Broken 0
 quoted_none f kind' b bs none =

@@ -1,12 +1,12 @@
 -- What stands at the front of a text: one byte, runs, and pieces whose length the text determines.
-use Rattle.std.proofs.Common.{◌≡◌, ◌≢◌, ℕ, zero, suc, ◌+◌, ◌<◌, ◌≤◌, Bool, true, false, List, [], ◌∷◌, ◌++◌, length, take, drop, refl, sym, ap, ◌∙◌, subst, true≢false, arith, Option, Some, None, cond, zero-add}
-use Rattle.std.specs.Prelude.{not, ◌&&◌, ◌==◌, nat_le, if◌then◌else◌}
+use Rattle.std.proofs.Common.{◌≡◌, ℕ, zero, suc, ◌+◌, ◌<◌, ◌≤◌, Bool, true, false, List, [], ◌∷◌, ◌++◌, length, take, drop, refl, sym, ap, ◌∙◌, subst, true≢false, arith, Some, None, cond, zero-add}
+use Rattle.std.specs.Prelude.{not, ◌&&◌, ◌==◌}
 use Rattle.std.specs.List.{prefix_len}
 use Rattle.std.proofs.lemmas.Bool.Decides.{nat_tests}
 use Rattle.std.proofs.lemmas.List.{take-append-drop, length-take-le}
 use Rattle.hs_lex.specs.Classes.{all, begins, is_empty}
 use Rattle.hs_lex.specs.Numbers.{only}
-use Rattle.hs_lex.specs.Longest.{Spelling, Longest, Never, Finds, alone}
+use Rattle.hs_lex.specs.Longest.{Spelling, Longest, Never}
 
 pub and_false : (a : Bool) → a && false ≡ false
 and_false true = refl
@@ -53,6 +53,7 @@ prefix_stop f (b ∷ bs) x r e = go (f b) refl (prefix_stop f bs x r)
   where
     head_is : (a b : ℕ) (xs ys : List ℕ) → a ∷ xs ≡ b ∷ ys → a ≡ b
     head_is a b xs ys e = cc
+
     go : (v : Bool) → f b ≡ v → (drop (prefix_len f bs) bs ≡ x ∷ r → f x ≡ false) → f x ≡ false
     go true is h = h (sym (ap (λ n. drop n (b ∷ bs)) (prefix_yes f b bs is)) ∙ e)
     go false is h = ap f (sym (head_is _ _ _ _ (sym (ap (λ n. drop n (b ∷ bs)) (prefix_no f b bs is)) ∙ e))) ∙ is
@@ -107,6 +108,7 @@ fixed_longest g h bs n le by = record {
   where
     same : (n : ℕ) → n ≤ length bs → (length (take n bs) == n) ≡ true
     same n le = let l = length-take-le n bs le in grind (arith, nat_tests)
+
     other : (m : ℕ) → m ≤ length bs → n < m → (length (take m bs) == n) ≡ false
     other m le' lt = let l = length-take-le m bs le' in grind (arith, nat_tests)
 

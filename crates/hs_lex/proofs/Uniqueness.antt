@@ -1,6 +1,6 @@
 -- No two lists of pieces cover one text, and no text has two answers.
-use Rattle.std.proofs.Common.{◌≡◌, ◌≢◌, ℕ, zero, suc, ◌+◌, ◌<◌, ◌≤◌, ◌⊎◌, inl, inr, Bool, true, false, List, [], ◌∷◌, length, take, drop, refl, sym, ap, ◌∙◌, subst, arith, true≢false, Option, Some, None, Result, Ok, Err, cond}
-use Rattle.std.specs.Prelude.{◌&&◌, nat_lt}
+use Rattle.std.proofs.Common.{◌≡◌, ℕ, ◌<◌, ◌⊎◌, inl, inr, Bool, true, false, List, [], ◌∷◌, length, take, drop, refl, sym, ap, ◌∙◌, subst, arith, true≢false, Option, Some, None, Result, Ok, Err}
+use Rattle.std.specs.Prelude.{nat_lt}
 use Rattle.std.proofs.lemmas.Bool.Decides.{nat_tests}
 use Rattle.hs_syntax.specs.declared.token.Token.{Token}
 use Rattle.hs_lex.specs.declared.kind.Kind.{Kind}
@@ -9,7 +9,7 @@ use Rattle.hs_lex.specs.declared.reader.LexError.{LexError}
 use Rattle.hs_lex.specs.declared.reader.LexError.TheVariants as e
 use Rattle.hs_lex.specs.Lexicon.{kind_of}
 use Rattle.hs_lex.specs.Longest.{Spelling, Longest}
-use Rattle.hs_lex.specs.Cover.{Piece, Stands, Cuts, is_sound, are_sound, tokens_of, Covered, Stops, Answers, OneCover, OneAnswer}
+use Rattle.hs_lex.specs.Cover.{Piece, Stands, Cuts, is_sound, are_sound, tokens_of, Covered, Stops, Answers}
 use Rattle.hs_lex.proofs.Runs.{and_true}
 
 none_some : {A : Type 0} (x : A) (o : Option A) → o ≡ None → o ≡ Some x → ⊥
@@ -55,7 +55,7 @@ meet (p ∷ ps) [] text rest rest' h g a b f f' =
 meet (p ∷ ps) (q ∷ qs) text rest rest' h g a b f f' =
     let same = same_piece p q text h.0 g.0 in
     let inner = meet ps qs (drop q.len text) rest rest' (subst (λ x. Cuts ps (drop x.len text) rest) same h.1) g.1
-        (and_true (is_sound p.kind) (are_sound ps) a).1 (and_true (is_sound q.kind) (are_sound qs) b).1 f f' in
+    (and_true (is_sound p.kind) (are_sound ps) a).1 (and_true (is_sound q.kind) (are_sound qs) b).1 f f' in
     (ap (λ x. x ∷ ps) same ∙ ap (λ l. q ∷ l) inner.0, inner.1)
 
 pub one_cover : (text : List ℕ) (ps qs : List Piece) → Cuts ps text [] → Cuts qs text [] → ps ≡ qs

@@ -1,5 +1,5 @@
 -- The longest piece that stands at the front of a text.
-use Rattle.std.specs.Prelude.{◌≡◌, ℕ, ◌+◌, ◌<◌, ◌≤◌, List, ◌∷◌, length, take, drop, Option, Some, None}
+use Rattle.std.specs.Prelude.{◌≡◌, ℕ, ◌<◌, ◌≤◌, List, length, take, drop, Option, Some, None}
 
 -- what bytes spell, before the bytes that follow them
 abbrev pub Spelling : Type 0 → Type 0

@@ -7,7 +7,7 @@ use Rattle.hs_lex.specs.declared.kind.Kind.{Kind}
 use Rattle.hs_lex.specs.declared.kind.Kind.TheVariants as k
 use Rattle.hs_lex.specs.declared.kind.Form.{Form}
 use Rattle.hs_lex.specs.declared.kind.Form.TheVariants as f
-use Rattle.hs_lex.specs.Classes.{from_to, is_in, all, is_empty}
+use Rattle.hs_lex.specs.Classes.{is_in, all, is_empty}
 
 abbrev pub only : {A : Type 0} → Bool → A → Option A
 only true x = Some x

@@ -95,10 +95,7 @@ pub fn count(class: Class, bytes: &[u8]) -> usize
     ensures value { result ≡ prefix_len (is_in class) bytes.now }
     ensures within { result ≤ length bytes.now }
 {
-    bytes
-        .iter()
-        .take_while(|byte| holds(class, **byte))
-        .count()
+    bytes.iter().take_while(|byte| holds(class, **byte)).count()
 }
 
 /// Whether the first byte is in the class.

@@ -82,11 +82,7 @@ fn short_name(text: &[u8]) -> bool
 fn shorter_name(text: &[u8]) -> bool
     ensures { result ≡ is_shorter_name text.now }
 {
-    is(text, b"FS")
-        || is(text, b"GS")
-        || is(text, b"RS")
-        || is(text, b"US")
-        || is(text, b"SP")
+    is(text, b"FS") || is(text, b"GS") || is(text, b"RS") || is(text, b"US") || is(text, b"SP")
 }
 
 /// The length of the longest ASCII name at the front.

@@ -69,7 +69,10 @@ fn character(text: &[u8], first: u8, rest: &[u8]) -> (Kind, usize)
     ensures { Longest (kind_by Quote first) rest.now result.0 result.1 }
 {
     match character_literal(rest) {
-        Some(len) => (checked_kind(front(len + 1, text), Kind::Token(TokenKind::Char)), len),
+        Some(len) => (
+            checked_kind(front(len + 1, text), Kind::Token(TokenKind::Char)),
+            len,
+        ),
         None => (Kind::Broken, 0),
     }
 }
@@ -80,7 +83,10 @@ fn string_literal(text: &[u8], first: u8, rest: &[u8]) -> (Kind, usize)
     ensures { Longest (kind_by DoubleQuote first) rest.now result.0 result.1 }
 {
     match string(rest) {
-        Some(len) => (checked_kind(front(len + 1, text), Kind::Token(TokenKind::Text)), len),
+        Some(len) => (
+            checked_kind(front(len + 1, text), Kind::Token(TokenKind::Text)),
+            len,
+        ),
         None => (Kind::Broken, 0),
     }
 }

@@ -132,11 +132,9 @@ pub fn lex(alloc: Global, bytes: &[u8]) -> Result<Tokens, LexError>
 /// No two lists of pieces cover one source.
 pub fn one_cover()
     ensures { OneCover }
-{
-}
+{}
 
 /// No source has two answers, want of memory aside.
 pub fn one_answer()
     ensures { OneAnswer }
-{
-}
+{}

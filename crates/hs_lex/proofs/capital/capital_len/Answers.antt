@@ -1,8 +1,6 @@
-use Rattle.std.proofs.Common.{◌≡◌, ◌<◌, ◌≤◌, ◌+◌, ◌∙◌, ℕ, Bool, true, false, List, [], ◌∷◌, length, take, drop, Option, Some, None, refl, sym, ap, subst, arith, cond}
+use Rattle.std.proofs.Common.{◌∙◌, length, ap, arith}
 use Rattle.hs_lex.specs.declared.class.Class.TheVariants as k
-use Rattle.hs_lex.specs.declared.kind.Form.TheVariants as f
 use Rattle.hs_lex.specs.Classes.{is_in, begins}
-use Rattle.hs_lex.specs.Longest.{Longest, Finds, alone}
 use Rattle.std.proofs.Common.{length-drop}
 use Rattle.hs_lex.proofs.Capitals.{ahead_first, ahead_more, ahead_end, first_whole}
 use Rattle.hs_lex.proofs.capital.capital_len.Goals as goal

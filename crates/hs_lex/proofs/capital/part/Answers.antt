@@ -1,8 +1,4 @@
-use Rattle.std.proofs.Common.{◌≡◌, ◌<◌, ◌≤◌, ◌+◌, ◌∙◌, ℕ, Bool, true, false, List, [], ◌∷◌, length, take, drop, Option, Some, None, refl, sym, ap, subst, arith, cond}
-use Rattle.hs_lex.specs.declared.class.Class.TheVariants as c
-use Rattle.hs_lex.specs.declared.kind.Form.TheVariants as f
-use Rattle.hs_lex.specs.Classes.{is_in, begins}
-use Rattle.hs_lex.specs.Longest.{Longest, Finds, alone}
+use Rattle.std.proofs.Common.{sym}
 use Rattle.hs_lex.proofs.Capitals.{ends_other, ends_more, ends_last, ends_never}
 use Rattle.hs_lex.proofs.capital.part.Goals as goal
 

@@ -1,8 +1,3 @@
-use Rattle.std.proofs.Common.{◌≡◌, ◌<◌, ◌≤◌, ◌+◌, ◌∙◌, ℕ, Bool, true, false, List, [], ◌∷◌, length, take, drop, Option, Some, None, refl, sym, ap, subst, arith, cond}
-use Rattle.hs_lex.specs.declared.class.Class.TheVariants as c
-use Rattle.hs_lex.specs.declared.kind.Form.TheVariants as f
-use Rattle.hs_lex.specs.Classes.{is_in, begins}
-use Rattle.hs_lex.specs.Longest.{Longest, Finds, alone}
 use Rattle.hs_lex.proofs.Levels.{is_checked, not_checked}
 use Rattle.hs_lex.proofs.comment.checked_kind.Goals as goal
 

@@ -1,8 +1,4 @@
-use Rattle.std.proofs.Common.{◌≡◌, ◌<◌, ◌≤◌, ◌+◌, ◌∙◌, ℕ, Bool, true, false, List, [], ◌∷◌, length, take, drop, Option, Some, None, refl, sym, ap, subst, arith, cond}
-use Rattle.hs_lex.specs.declared.class.Class.TheVariants as c
-use Rattle.hs_lex.specs.declared.kind.Form.TheVariants as f
-use Rattle.hs_lex.specs.Classes.{is_in, begins}
-use Rattle.hs_lex.specs.Longest.{Longest, Finds, alone}
+use Rattle.std.proofs.Common.{length, ap, arith}
 use Rattle.std.proofs.Common.{length-drop}
 use Rattle.hs_lex.proofs.Levels.{item_more}
 use Rattle.hs_lex.proofs.literal.string.Goals as goal

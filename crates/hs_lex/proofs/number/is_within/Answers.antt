@@ -1,9 +1,4 @@
-use Rattle.std.proofs.Common.{◌≡◌, ◌<◌, ◌≤◌, ◌+◌, ◌∙◌, ℕ, Bool, true, false, List, [], ◌∷◌, length, take, drop, Option, Some, None, refl, sym, ap, subst, arith, cond}
-use Rattle.hs_lex.specs.declared.class.Class.TheVariants as c
-use Rattle.hs_lex.specs.declared.kind.Form.TheVariants as f
-use Rattle.hs_lex.specs.Classes.{is_in, begins}
-use Rattle.hs_lex.specs.Longest.{Longest, Finds, alone}
-use Rattle.hs_lex.specs.Numbers.{run_as, exponent, fraction, decimal, behind_zero, numeral}
+use Rattle.std.proofs.Common.{arith}
 use Rattle.hs_lex.proofs.Numbers.{value_exceeds}
 use Rattle.hs_lex.proofs.number.is_within.Goals as goal
 

@@ -1,8 +1,4 @@
-use Rattle.std.proofs.Common.{◌≡◌, ◌<◌, ◌≤◌, ◌+◌, ◌∙◌, ℕ, Bool, true, false, List, [], ◌∷◌, length, take, drop, Option, Some, None, refl, sym, ap, subst, arith, cond}
-use Rattle.hs_lex.specs.declared.class.Class.TheVariants as c
-use Rattle.hs_lex.specs.declared.kind.Form.TheVariants as f
-use Rattle.hs_lex.specs.Classes.{is_in, begins}
-use Rattle.hs_lex.specs.Longest.{Longest, Finds, alone}
+use Rattle.std.proofs.Common.{refl}
 use Rattle.hs_lex.specs.declared.class.Start.TheVariants as s
 use Rattle.hs_lex.specs.declared.kind.Kind.TheVariants as k
 use Rattle.hs_syntax.specs.declared.token.TokenKind.TheVariants as t
