@@ -1,0 +1,5 @@
+use Rattle.hs_lex.proofs.Uniqueness.{one_answer as all_one}
+use Rattle.hs_lex.proofs.reader.one_answer.Goals as goal
+
+pub returns : goal.returns
+returns c = λ text one two h g x y. all_one text one two h g x y
