@@ -1,0 +1,4 @@
+pub mod Project
+pub mod Stanzas
+pub mod Entries
+pub mod Package
