@@ -5,3 +5,4 @@ pub mod Lists
 pub mod Texts
 pub mod Entities
 pub mod Holes
+pub mod Names

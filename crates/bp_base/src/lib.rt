@@ -8,6 +8,7 @@ mod entity;
 mod hole;
 mod ident;
 mod linking;
+mod names;
 mod steps;
 mod text;
 mod ty;
@@ -26,9 +27,13 @@ pub use linking::{
     Include, Includes, Linking, Provision, Provisions, Rename, Renames, Renaming, Shown, Showns,
     copied_provisions, copied_renames,
 };
+pub use names::{is_component_name, is_module_name, is_package_name};
 pub use steps::Steps;
 pub use text::{Bytes, Name, Names, Path, compare};
 pub use ty::{
     Kind, OrigName, OrigNames, Scheme, Space, Ty, Tys, kind_eq, same_orig_name, same_scheme,
     same_ty,
 };
+
+#[cfg(test)]
+mod tests;

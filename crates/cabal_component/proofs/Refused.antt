@@ -1,5 +1,5 @@
 -- The first refused line, block after block.
-use Rattle.std.proofs.Common.{◌≡◌, sym, ap, ◌∙◌, ℕ, ◌+◌, ◌-◌, ◌<◌, ◌≤◌, List, [], ◌∷◌, length, take, drop, get_or, nat_lt, map, Option, Some, arith, add-one, drop-cons, suc}
+use Rattle.std.proofs.Common.{◌≡◌, sym, ap, ◌∙◌, ℕ, ◌+◌, ◌-◌, ◌<◌, ◌≤◌, List, [], ◌∷◌, length, take, drop, get_or, nat_lt, map, Option, Some, None, refl, arith, add-one, drop-cons, suc}
 use Rattle.std.specs.List.{prefix_len, flat_map}
 use Rattle.std.proofs.lemmas.Grind.{common_steps}
 use Rattle.std.proofs.lemmas.List.{take_rest}
@@ -8,7 +8,7 @@ use Rattle.cabal_text.specs.Least.{sooner, least_of}
 use Rattle.cabal_text.specs.Lines.{blocks, deeper_than}
 use Rattle.cabal_component.specs.Package.{block_refused}
 use Rattle.cabal_component.proofs.Blocked.{block}
-use Rattle.cabal_text.proofs.Sooner.{sooner_assoc, block_next}
+use Rattle.cabal_text.proofs.Sooner.{sooner_assoc, item_next_least}
 
 deep_more : (l : Line) (ls : List Line) → 0 < l.indent → map (λ x. x.number) (deeper_than 0 (l ∷ ls)) ≡ l.number ∷ map (λ x. x.number) (deeper_than 0 ls)
 deep_more l ls h = grind (arith, common_steps)
@@ -41,4 +41,13 @@ blocks_step (l ∷ ls) line k least found new total h f z e b n t =
     let first = block_here l ls top in
     let here : found ≡ least_of (block_refused (block l (deeper_than 0 ls))) = rw (r, count, f) at b in
     let whole : sooner least (least_of (flat_map block_refused (block l (deeper_than 0 ls) ∷ blocks 0 ls))) ≡ total = rw first at t in
-    rw r (block_next block_refused (block l (deeper_than 0 ls)) (blocks 0 ls) least found new total here n whole)
+    rw r (item_next_least block_refused (block l (deeper_than 0 ls)) (blocks 0 ls) least found new total here n whole)
+
+some_least : (n : ℕ) (o : Option ℕ) → sooner (Some n) o ≡ None → ⊥
+some_least n None e = cc
+some_least n (Some m) e = cc
+
+-- where there is no least line, no line is refused
+pub none_refused : (ns : List ℕ) → least_of ns ≡ None → ns ≡ []
+none_refused [] e = refl
+none_refused (n ∷ ns) e = absurd (some_least n (least_of ns) e)

@@ -1,14 +1,14 @@
--- The entries of mixins.
-use Rattle.std.specs.Prelude.{ℕ, ◌+◌, Bool, false, Option, Some, None, option_map, List, [], ◌∷◌, length, take, drop, codes, nat_lt, ◌==◌, ◌||◌, ◌&&◌, not, if◌then◌else◌}
-use Rattle.std.specs.List.{prefix_len, list_any, list_all, slice_split}
-use Rattle.std.specs.Char.{is_ascii_alphanumeric}
-use Rattle.cabal_component.specs.declared.mixins.Rename.{Rename}
-use Rattle.cabal_component.specs.declared.entries.Mixin.{Mixin}
-use Rattle.cabal_component.specs.declared.entries.Provides.{Provides}
-use Rattle.cabal_component.specs.declared.entries.Provides.TheVariants.{Whole, Listed, Hiding}
+-- The entries of mixins (Cabal manual, "mixins").
+use Rattle.std.specs.Prelude.{ℕ, ◌+◌, Bool, Option, Some, None, option_map, List, [], ◌∷◌, length, take, drop, map, codes, nat_lt, ◌==◌, ◌&&◌, not, if◌then◌else◌}
+use Rattle.std.specs.List.{prefix_len}
+use Rattle.bp_base.specs.declared.linking.Rename.{Rename}
 use Rattle.cabal_text.specs.declared.tokens.Brackets.TheVariants.{Round}
 use Rattle.cabal_text.specs.Tokens.{is_text, tokens_of, items_at, without_comma, each_read}
-use Rattle.cabal_text.specs.Names.{is_module_name, renames_of}
+use Rattle.cabal_text.specs.Names.{is_dependency, renames_of, names_of}
+use Rattle.cabal_text.specs.Seen.{repeats}
+use Rattle.cabal_component.specs.declared.component.Mixin.{Mixin}
+use Rattle.cabal_component.specs.declared.component.Provides.{Provides}
+use Rattle.cabal_component.specs.declared.component.Provides.TheVariants.{Whole, Listed, Hiding}
 
 -- how many tokens stand before the closing bracket
 abbrev pub close_len : List (List ℕ) → ℕ
@@ -28,13 +28,11 @@ word_bracket word (token ∷ tokens) = if is_text token word then bracket_of tok
 
 -- two have one new name
 abbrev pub news_repeat : List Rename → Bool
-news_repeat [] = false
-news_repeat (r ∷ rs) = list_any (λ s. is_text s.to r.to) rs || news_repeat rs
+news_repeat renames = repeats (map (λ r. r.to) renames)
 
 -- two have one old name
 abbrev pub olds_repeat : List Rename → Bool
-olds_repeat [] = false
-olds_repeat (r ∷ rs) = list_any (λ s. is_text s.from r.from) rs || olds_repeat rs
+olds_repeat renames = repeats (map (λ r. r.from) renames)
 
 abbrev pub needs_if : Option (List Rename) → Option (List Rename)
 needs_if None = None

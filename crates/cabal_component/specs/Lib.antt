@@ -1,4 +1,7 @@
+pub mod Folder
 pub mod Project
 pub mod Stanzas
+pub mod Heads
+pub mod Values
 pub mod Entries
 pub mod Package

@@ -1,58 +1,12 @@
 -- The package files that a project file names, and the lines of it that are refused.
-use Rattle.std.specs.Prelude.{◌≡◌, ℕ, ◌-◌, Bool, false, Option, Some, None, List, [], ◌∷◌, ◌++◌, length, take, drop, map, codes, nat_lt, ◌==◌, ◌||◌, if◌then◌else◌}
-use Rattle.std.specs.List.{filter, flat_map, list_any, slice_split, starts_with, ends_with}
-use Rattle.std.specs.Cmp.Lexicographic.{pointwise}
+use Rattle.std.specs.Prelude.{◌≡◌, ℕ, Bool, Option, Some, None, List, [], ◌∷◌, ◌++◌, map, codes, nat_lt, ◌||◌, if◌then◌else◌}
+use Rattle.std.specs.List.{filter, flat_map, list_any}
 use Rattle.cabal_text.specs.declared.lines.Line.{Line}
 use Rattle.cabal_component.specs.declared.project.ProjectError.{ProjectError}
 use Rattle.cabal_component.specs.declared.project.ProjectError.TheVariants.{ProjectSyntax, NoMemory}
 use Rattle.cabal_text.specs.Lines.{Block, blocks, deeper_than}
 use Rattle.cabal_text.specs.Fields.{field_of, first_word, is_word, items_of}
-
--- the item without a leading `./`
-unfoldable pub without_front : List ℕ → List ℕ
-without_front item = if starts_with ◌==◌ item (codes "./") then drop 2 item else item
-
--- the item without a trailing `/`
-unfoldable pub without_end : List ℕ → List ℕ
-without_end item = if ends_with ◌==◌ item (codes "/") then take (length item - 1) item else item
-
--- the item without both
-abbrev pub trimmed : List ℕ → List ℕ
-trimmed item = without_end (without_front item)
-
--- a character of globs
-unfoldable pub is_glob_char : ℕ → Bool
-is_glob_char b = (b == 42) || (b == 63) || (b == 91) || (b == 93) || (b == 123) || (b == 125)
-
--- some part between slashes is `..`
-unfoldable pub climbs : List ℕ → Bool
-climbs item = list_any (λ part. pointwise ◌==◌ part (codes "..")) (slice_split (λ b. b == 47) item)
-
--- `://` stands in the item
-abbrev pub is_address : List ℕ → Bool
-is_address [] = false
-is_address (b ∷ bs) = starts_with ◌==◌ (b ∷ bs) (codes "://") || is_address bs
-
--- the item is a glob or an address, or leaves a folder
-unfoldable pub is_foreign : List ℕ → Bool
-is_foreign item = list_any is_glob_char item || climbs item || is_address item
-
--- the path is that of the folder itself
-unfoldable pub is_here : List ℕ → Bool
-is_here path = (length path == 0) || pointwise ◌==◌ path (codes ".")
-
--- the item names no package file
-unfoldable pub is_refused_item : List ℕ → Bool
-is_refused_item item = is_foreign item || starts_with ◌==◌ item (codes "/") || is_here (trimmed item)
-
--- what stands behind the last slash of the rest, or else this
-abbrev pub behind_slash : List ℕ → List ℕ → List ℕ
-behind_slash behind [] = behind
-behind_slash behind (b ∷ bs) = if b == 47 then behind_slash bs bs else behind_slash behind bs
-
--- the package file at a path, which may be that of its folder
-unfoldable pub package_file : List ℕ → List ℕ
-package_file path = if ends_with ◌==◌ path (codes ".cabal") then path else path ++ codes "/" ++ behind_slash path path ++ codes ".cabal"
+use Rattle.cabal_component.specs.Folder.{trimmed, is_refused_item, package_file}
 
 -- the package files that a list names
 abbrev pub files_of : List ℕ → List (List ℕ)

@@ -1,5 +1,5 @@
 -- The fields and stanzas of a package file.
-use Rattle.std.specs.Prelude.{ℕ, Bool, Option, Some, None, List, [], ◌∷◌, ◌++◌, map, codes, nat_lt, ◌==◌, ◌||◌, ◌&&◌, not, is_some, if◌then◌else◌}
+use Rattle.std.specs.Prelude.{ℕ, Bool, Option, Some, None, List, [], ◌∷◌, ◌++◌, drop, map, codes, nat_lt, ◌==◌, ◌||◌, ◌&&◌, not, is_some, if◌then◌else◌}
 use Rattle.std.specs.List.{filter, filter_map, flat_map}
 use Rattle.cabal_text.specs.declared.lines.Line.{Line}
 use Rattle.cabal_component.specs.declared.stanzas.Field.{Field}
@@ -35,26 +35,29 @@ abbrev pub indent_in : List Line → ℕ
 indent_in [] = 0
 indent_in (l ∷ ls) = l.indent
 
--- the fields of both kinds of component
-unfoldable pub is_common_field : List ℕ → Bool
-is_common_field name =
-    is_word name (codes "other-modules") || is_word name (codes "build-depends") || is_word name (codes "mixins")
-    || is_word name (codes "hs-source-dirs") || is_word name (codes "signatures")
-
--- a field that isn't ignored in an executable, or else in a library
-unfoldable pub is_read : Bool → List ℕ → Bool
-is_read executable name =
-    is_common_field name
-    || (if executable then is_word name (codes "main-is") else is_word name (codes "exposed-modules") || is_word name (codes "reexported-modules"))
-
 -- the lines of the fields of a name
 abbrev pub lines_named : List ℕ → List Field → List ℕ
 lines_named name fs = map (λ g. g.line) (filter (λ g. is_word g.name name) fs)
 
--- the lines of the fields that give a field again which isn't ignored
-abbrev pub again : Bool → Field → List Field → List ℕ
-again executable f fs = if is_read executable f.name then lines_named f.name fs else []
+-- the lines of the fields that give a name again: all but the first
+abbrev pub given_again : List ℕ → List Field → List ℕ
+given_again name fs = drop 1 (lines_named name fs)
 
+abbrev pub shared_again : List Field → List ℕ
+shared_again fs =
+    (given_again (codes "other-modules") fs ++ given_again (codes "build-depends") fs)
+    ++ (given_again (codes "mixins") fs ++ given_again (codes "hs-source-dirs") fs)
+
+abbrev pub library_again : List Field → List ℕ
+library_again fs =
+    given_again (codes "exposed-modules") fs
+    ++ (given_again (codes "signatures") fs ++ given_again (codes "reexported-modules") fs)
+
+-- the lines of the fields that are given again, of those that a component reads
 abbrev pub repeated : Bool → List Field → List ℕ
-repeated executable [] = []
-repeated executable (f ∷ fs) = again executable f fs ++ repeated executable fs
+repeated executable fs = shared_again fs ++ (if executable then given_again (codes "main-is") fs else library_again fs)
+
+-- the value of the first field of a name; nothing where there is none
+abbrev pub value_named : List ℕ → List Field → List ℕ
+value_named name [] = []
+value_named name (f ∷ fs) = if is_word f.name name then f.value else value_named name fs

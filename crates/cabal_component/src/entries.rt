@@ -1,62 +1,14 @@
 //! The entries of mixins.
-ghost use Rattle.std.specs.Prelude.{◌≡◌, ◌≤◌, List, ℕ, Option, None, Some, IfOk, MatchOption, length, option_map, not, codes, ◌==◌};
-ghost use Rattle.std.specs.List.{prefix_len, list_any, list_all};
-ghost use Rattle.std.specs.Char.{is_ascii_alphanumeric};
-ghost use Rattle.cabal_text.specs.Tokens.{is_text};
-ghost use Rattle.cabal_component.specs.Entries.{is_run, is_package_name, is_dependency, close_len, bracket_of, word_bracket, name_of, names_of, news_repeat, olds_repeat, needs_of, mixin_with, entry_of, mixins_of};
-ghost use Rattle.cabal_component.specs.declared.mixins.Rename.{Rename};
-ghost use Rattle.cabal_component.specs.declared.entries.Provides.TheVariants.{Listed, Hiding};
+ghost use Rattle.std.specs.Prelude.{◌≡◌, ◌≤◌, List, ℕ, None, Some, IfOk, MatchOption, length, map};
+ghost use Rattle.cabal_component.specs.Entries.{close_len, bracket_of, word_bracket, news_repeat, olds_repeat, needs_of, mixin_with, entry_of, mixins_of};
 
-use crate::mixins::{Rename, is_module_name, renames_of};
-use crate::tokens::{Brackets, next_item, tokens_of, without_comma};
-use bp_base::{Bytes, Name, Names};
+use crate::component::{Mixin, Mixins, Provides};
+use bp_base::{Bytes, Name, Names, Rename, Renames};
+use cabal_text::names::{is_dependency, names_of, renames_of};
+use cabal_text::seen::repeats;
+use cabal_text::tokens::{Brackets, next_item, tokens_of, without_comma};
+use sqlite_items::Items;
 use std::alloc::{AllocError, Global};
-use std::marker::Model;
-
-/// Renames in order.
-#[derive(Debug, Drop)]
-pub struct Renames {
-    items: Vec<Rename>,
-}
-
-impl Model for Renames {
-    ghost use Rattle.std.specs.Prelude.{List};
-    ghost use Rattle.cabal_component.specs.declared.mixins.Rename.{Rename};
-
-    ghost Value = { List Rename };
-
-    ghost view = { λ r. r.items.items };
-}
-
-impl Renames {
-    pub fn from_vec(items: Vec<Rename>) -> Renames
-        ensures { result ≡ items.items }
-    {
-        Renames { items }
-    }
-
-    pub fn as_slice(&self) -> &[Rename]
-        ensures { result.now ≡ self.now }
-    {
-        &self.items
-    }
-}
-
-/// What an entry brings of a dependency.
-#[derive(Debug, Drop)]
-pub enum Provides {
-    Whole,
-    Listed { items: Renames },
-    Hiding { names: Names },
-}
-
-/// An entry of mixins.
-#[derive(Debug, Drop)]
-pub struct Mixin {
-    pub dep: Name,
-    pub provides: Provides,
-    pub needs: Renames,
-}
 
 /// How many tokens stand before the closing bracket.
 fn close_len(tokens: &[Bytes]) -> usize
@@ -100,54 +52,42 @@ fn word_bracket<'a>(word: &[u8], tokens: &'a [Bytes]) -> Option<(&'a [Bytes], &'
     }
 }
 
-fn is_new(name: &Name, renames: &[Rename]) -> bool
-    ensures { result ≡ list_any (λ s. is_text s.to name.now) renames.now }
+/// The new names of renamings.
+pub fn new_names(alloc: Global, renames: &[Rename]) -> Result<Names, AllocError>
+    ensures { IfOk result (λ names. names ≡ map (λ r. r.to) renames.now) }
 {
+    let mut names = Items::new(alloc);
     for rename in renames {
-        if rename.to == *name {
-            return true;
-        }
+        names.push(rename.to.copied(alloc)?)?;
     }
-    false
+    Ok(names)
 }
 
-fn is_old(name: &Name, renames: &[Rename]) -> bool
-    ensures { result ≡ list_any (λ s. is_text s.from name.now) renames.now }
+/// The old names of renamings.
+pub fn old_names(alloc: Global, renames: &[Rename]) -> Result<Names, AllocError>
+    ensures { IfOk result (λ names. names ≡ map (λ r. r.from) renames.now) }
 {
+    let mut names = Items::new(alloc);
     for rename in renames {
-        if rename.from == *name {
-            return true;
-        }
+        names.push(rename.from.copied(alloc)?)?;
     }
-    false
+    Ok(names)
 }
 
 /// Whether two have one new name.
-fn news_repeat(renames: &[Rename]) -> bool
-    ensures { result ≡ news_repeat renames.now }
+fn news_repeat(alloc: Global, renames: &Renames) -> Result<bool, AllocError>
+    ensures { IfOk result (λ found. found ≡ news_repeat renames.now) }
 {
-    let mut rest = renames;
-    while let [first, after @ ..] = rest {
-        if is_new(&first.to, after) {
-            return true;
-        }
-        rest = after;
-    }
-    false
+    let names = new_names(alloc, renames.as_slice())?;
+    repeats(alloc, names.as_slice())
 }
 
 /// Whether two have one old name.
-fn olds_repeat(renames: &[Rename]) -> bool
-    ensures { result ≡ olds_repeat renames.now }
+fn olds_repeat(alloc: Global, renames: &Renames) -> Result<bool, AllocError>
+    ensures { IfOk result (λ found. found ≡ olds_repeat renames.now) }
 {
-    let mut rest = renames;
-    while let [first, after @ ..] = rest {
-        if is_old(&first.from, after) {
-            return true;
-        }
-        rest = after;
-    }
-    false
+    let names = old_names(alloc, renames.as_slice())?;
+    repeats(alloc, names.as_slice())
 }
 
 /// Nothing, or `requires` and renames in brackets.
@@ -155,7 +95,7 @@ fn needs_of(alloc: Global, tokens: &[Bytes]) -> Result<Option<Renames>, AllocErr
     ensures { IfOk result (λ found. found ≡ needs_of tokens.now) }
 {
     if tokens.is_empty() {
-        return Ok(Some(Renames::from_vec(Vec::new(alloc))));
+        return Ok(Some(Items::new(alloc)));
     }
     let Some((inner, after)) = word_bracket(b"requires", tokens) else {
         return Ok(None);
@@ -166,10 +106,10 @@ fn needs_of(alloc: Global, tokens: &[Bytes]) -> Result<Option<Renames>, AllocErr
     let Some(needs) = renames_of(alloc, inner)? else {
         return Ok(None);
     };
-    if olds_repeat(&needs) {
+    if olds_repeat(alloc, &needs)? {
         return Ok(None);
     }
-    Ok(Some(Renames::from_vec(needs)))
+    Ok(Some(needs))
 }
 
 fn mixin_with(
@@ -205,28 +145,26 @@ fn entry_of(alloc: Global, item: &[Bytes]) -> Result<Option<Mixin>, AllocError>
         let Some(items) = renames_of(alloc, inner)? else {
             return Ok(None);
         };
-        if news_repeat(&items) {
+        if news_repeat(alloc, &items)? {
             return Ok(None);
         }
-        let items = Renames::from_vec(items);
         return mixin_with(alloc, dep, Provides::Listed { items }, after);
     }
     if let Some((inner, after)) = word_bracket(b"hiding", rest) {
         let Some(names) = names_of(alloc, inner)? else {
             return Ok(None);
         };
-        let names = Names::from_vec(names);
         return mixin_with(alloc, dep, Provides::Hiding { names }, after);
     }
     mixin_with(alloc, dep, Provides::Whole, rest)
 }
 
 /// The entries of a value.
-pub fn mixins_of(alloc: Global, value: &[u8]) -> Result<Option<Vec<Mixin>>, AllocError>
-    ensures { IfOk result (λ found. MatchOption found (mixins_of value.now ≡ None) (λ mixins. mixins_of value.now ≡ Some mixins.items)) }
+pub fn mixins_of(alloc: Global, value: &[u8]) -> Result<Option<Mixins>, AllocError>
+    ensures { IfOk result (λ found. found ≡ mixins_of value.now) }
 {
     let tokens = tokens_of(alloc, value)?;
-    let mut mixins = Vec::new(alloc);
+    let mut mixins = Items::new(alloc);
     let mut rest = without_comma(&tokens);
     while !rest.is_empty() {
         let (item, after) = next_item(Brackets::Round, rest);

@@ -1,138 +1,135 @@
 //! Which line of a package file is refused first.
-ghost use Rattle.std.specs.Prelude.{◌≡◌, ◌++◌, List, ℕ, IfOk, MatchResult, map, codes, length};
+ghost use Rattle.std.specs.Prelude.{◌≡◌, ◌++◌, List, ℕ, IfOk, OnOk, map, codes, is_some};
 ghost use Rattle.std.specs.List.{filter, flat_map, list_any};
 ghost use Rattle.cabal_text.specs.Least.{least_of};
 ghost use Rattle.cabal_text.specs.Fields.{is_word};
-ghost use Rattle.cabal_text.specs.Lines.{Block, blocks, deeper_than, kept_lines};
+ghost use Rattle.cabal_text.specs.Names.{module_names};
+ghost use Rattle.cabal_text.specs.Lines.{Block, blocks, deeper_than};
+ghost use Rattle.cabal_text.specs.Seen.{is_among};
 ghost use Rattle.cabal_component.specs.Project.{shallow_lines};
-ghost use Rattle.cabal_component.specs.Package.{is_name_value, bad_name, refused_names, is_ignored, library_head, executable_head, head_of, is_bad, lacks_main, main_refused, fields_refused, component_refused, is_table_field, common_refused, stanza_refused, block_refused, package_refused};
+ghost use Rattle.cabal_component.specs.Stanzas.{fields_at, repeated};
+ghost use Rattle.cabal_component.specs.Package.{or_none, is_bad_shared, is_bad_library, is_bad_executable, is_bad, lists_own, place, placed_in, placed, twice_lines, lacks_main, main_refused, fields_refused, component_refused, lists_modules, is_other_field, is_table_field, common_refused, stanza_refused, block_refused, package_refused};
 
-use crate::entries::{is_package_name, mixins_of};
-use crate::fields::{field_of, is_word};
-use crate::least::sooner;
-use crate::lines::{Line, deeper_len, kept_lines};
-use crate::stanzas::{Field, fields_at, indent_in, is_read, line_named, odd_line, repeated_line};
-use crate::tokens::tokens_of;
-use bp_base::Bytes;
+use crate::entries::mixins_of;
+use crate::folder::folders_of;
+use crate::heads::{Head, head_of, name_line};
+use crate::stanzas::{Field, fields_at, indent_in, odd_line, repeated_line};
+use crate::values::{ranged_names, source_name};
+use bp_base::{Name, Names};
+use cabal_text::fields::{field_of, is_word};
+use cabal_text::least::sooner;
+use cabal_text::lines::{Line, deeper_len};
+use cabal_text::names::{module_names, renames_of};
+use cabal_text::seen::add_name;
+use cabal_text::tokens::tokens_of;
+use sqlite_items::Items;
 use std::alloc::{AllocError, Global};
+use std::collections::HashSet;
 
-/// What a head begins.
-#[derive(Clone, Copy, Debug)]
-enum Head {
-    Library,
-    Executable,
-    Common,
-    Ignored,
-    Other,
+/// A name with the line of the field that lists it.
+#[derive(Debug, Drop)]
+struct Listing {
+    line: u64,
+    name: Name,
 }
 
-/// Whether the tokens are a package's name and nothing else.
-fn is_name_value(tokens: &[Bytes]) -> bool
-    ensures { result ≡ is_name_value tokens.now }
+/// Whether a value is a list of module names.
+fn lists_names(alloc: Global, field: &Field) -> Result<bool, AllocError>
+    ensures { IfOk result (λ good. good ≡ is_some (module_names field.now.value)) }
 {
-    match tokens {
-        [name] => is_package_name(name.as_bytes()),
-        _ => false,
+    Ok(module_names(alloc, field.value.as_bytes())?.is_some())
+}
+
+/// Whether a field of both kinds of component has a bad value.
+fn is_bad_shared(alloc: Global, field: &Field) -> Result<bool, AllocError>
+    ensures { IfOk result (λ bad. bad ≡ is_bad_shared field.now) }
+{
+    let name = field.name.as_bytes();
+    let value = field.value.as_bytes();
+    if is_word(name, b"other-modules") {
+        return Ok(!lists_names(alloc, field)?);
     }
-}
-
-/// The line of a field without a package's name as its value.
-fn bad_name(alloc: Global, field: &Field) -> Result<Option<u64>, AllocError>
-    ensures { IfOk result (λ line. line ≡ least_of (bad_name field.now)) }
-{
-    let tokens = tokens_of(alloc, field.value.as_bytes())?;
-    if is_name_value(&tokens) {
-        Ok(None)
-    } else {
-        Ok(Some(field.line))
+    if is_word(name, b"build-depends") {
+        return Ok(ranged_names(alloc, value)?.is_none());
     }
+    if is_word(name, b"mixins") {
+        return Ok(mixins_of(alloc, value)?.is_none());
+    }
+    if is_word(name, b"hs-source-dirs") {
+        return Ok(folders_of(alloc, value)?.is_none());
+    }
+    Ok(false)
 }
 
-/// The first line that is refused for the package's name.
-#[tactic(auto, using(crate::proofs::Sooner::least_append))]
-fn name_line(alloc: Global, fields: &[Field]) -> Result<Option<u64>, AllocError>
-    ensures { IfOk result (λ line. line ≡ least_of (refused_names fields.now)) }
+/// Whether a field of libraries has a bad value.
+fn is_bad_library(alloc: Global, field: &Field) -> Result<bool, AllocError>
+    ensures { IfOk result (λ bad. bad ≡ is_bad_library field.now) }
 {
-    let mut rest = fields;
-    while let [field, after @ ..] = rest {
-        if is_word(field.name.as_bytes(), b"name") {
-            let bad = bad_name(alloc, field)?;
-            return Ok(sooner(bad, line_named(b"name", after)));
+    let name = field.name.as_bytes();
+    if is_word(name, b"exposed-modules") {
+        return Ok(!lists_names(alloc, field)?);
+    }
+    if is_word(name, b"signatures") {
+        return Ok(!lists_names(alloc, field)?);
+    }
+    if is_word(name, b"reexported-modules") {
+        let tokens = tokens_of(alloc, field.value.as_bytes())?;
+        return Ok(renames_of(alloc, &tokens)?.is_none());
+    }
+    Ok(false)
+}
+
+/// Whether a name is one of these.
+pub fn is_among(name: &[u8], names: &[Name]) -> bool
+    ensures { result ≡ is_among name.now names.now }
+{
+    for each in names {
+        if name == each.as_bytes() {
+            return true;
         }
-        rest = after;
     }
-    Ok(Some(1))
+    false
 }
 
-/// Whether a stanza is read over.
-#[tactic(auto, unfolding(crate::specs::Package::is_ignored))]
-fn is_ignored(word: &[u8]) -> bool
-    ensures { result ≡ is_ignored word.now }
+/// The names that a value lists; none where it is no list of names.
+pub fn names_in(alloc: Global, value: &[u8]) -> Result<Names, AllocError>
+    ensures { IfOk result (λ names. names ≡ or_none (module_names value.now)) }
 {
-    is_word(word, b"flag")
-        || is_word(word, b"source-repository")
-        || is_word(word, b"test-suite")
-        || is_word(word, b"benchmark")
-        || is_word(word, b"custom-setup")
-        || is_word(word, b"foreign-library")
-}
-
-fn library_head(words: &[Bytes]) -> Head
-    ensures { result ≡ library_head words.now }
-{
-    match words {
-        [] => Head::Library,
-        [name] if is_package_name(name.as_bytes()) => Head::Library,
-        _ => Head::Other,
+    match module_names(alloc, value)? {
+        Some(names) => Ok(names),
+        None => Ok(Items::new(alloc)),
     }
 }
 
-fn executable_head(words: &[Bytes]) -> Head
-    ensures { result ≡ executable_head words.now }
+/// Whether a field of executables has a bad value, or may not stand there.
+fn is_bad_executable(alloc: Global, field: &Field) -> Result<bool, AllocError>
+    ensures { IfOk result (λ bad. bad ≡ is_bad_executable field.now) }
 {
-    match words {
-        [name] if is_package_name(name.as_bytes()) => Head::Executable,
-        _ => Head::Other,
+    let name = field.name.as_bytes();
+    if is_word(name, b"signatures") {
+        return Ok(true);
     }
-}
-
-/// What the words of a head begin.
-fn head_of(words: &[Bytes]) -> Head
-    ensures { result ≡ head_of words.now }
-{
-    let [word, rest @ ..] = words else {
-        return Head::Other;
-    };
-    let word = word.as_bytes();
-    if is_word(word, b"library") {
-        return library_head(rest);
+    if is_word(name, b"main-is") {
+        return Ok(source_name(alloc, field.value.as_bytes())?.is_none());
     }
-    if is_word(word, b"executable") {
-        return executable_head(rest);
+    if is_word(name, b"other-modules") {
+        let names = names_in(alloc, field.value.as_bytes())?;
+        return Ok(is_among(b"Main", names.as_slice()));
     }
-    if is_word(word, b"common") {
-        return Head::Common;
-    }
-    if is_ignored(word) {
-        Head::Ignored
-    } else {
-        Head::Other
-    }
+    Ok(false)
 }
 
 /// Whether a field has a bad value, or may not stand there.
 fn is_bad(alloc: Global, executable: bool, field: &Field) -> Result<bool, AllocError>
     ensures { IfOk result (λ bad. bad ≡ is_bad executable field.now) }
 {
-    if executable && is_word(field.name.as_bytes(), b"signatures") {
+    if is_bad_shared(alloc, field)? {
         return Ok(true);
     }
-    if !is_word(field.name.as_bytes(), b"mixins") {
-        return Ok(false);
-    }
-    match mixins_of(alloc, field.value.as_bytes())? {
-        Some(_) => Ok(false),
-        None => Ok(true),
+    if executable {
+        is_bad_executable(alloc, field)
+    } else {
+        is_bad_library(alloc, field)
     }
 }
 
@@ -171,8 +168,101 @@ fn main_line(executable: bool, head: u64, fields: &[Field]) -> Option<u64>
     }
 }
 
+/// Whether a field lists own modules or signatures.
+fn lists_own(executable: bool, name: &[u8]) -> bool
+    ensures { result ≡ lists_own executable name.now }
+{
+    if is_word(name, b"other-modules") {
+        return true;
+    }
+    !executable && (is_word(name, b"exposed-modules") || is_word(name, b"signatures"))
+}
+
+/// Adds names at a line.
+fn place_names(
+    alloc: Global,
+    line: u64,
+    names: &[Name],
+    places: &mut Items<Listing>,
+) -> Result<(), AllocError>
+    ensures { OnOk result (places.new ≡ places.old ++ map (place line) names.now) }
+{
+    for name in names {
+        places.push(Listing {
+            line,
+            name: name.copied(alloc)?,
+        })?;
+    }
+    Ok(())
+}
+
+/// Adds the names that a field lists.
+fn place_field(
+    alloc: Global,
+    executable: bool,
+    field: &Field,
+    places: &mut Items<Listing>,
+) -> Result<(), AllocError>
+    ensures { OnOk result (places.new ≡ places.old ++ placed_in executable field.now) }
+{
+    if lists_own(executable, field.name.as_bytes()) {
+        let names = names_in(alloc, field.value.as_bytes())?;
+        place_names(alloc, field.line, names.as_slice(), places)?;
+    }
+    Ok(())
+}
+
+/// The own modules and signatures, as listed.
+fn placed(alloc: Global, executable: bool, fields: &[Field]) -> Result<Items<Listing>, AllocError>
+    ensures { IfOk result (λ places. places ≡ placed executable fields.now) }
+{
+    let mut places = Items::new(alloc);
+    for field in fields {
+        place_field(alloc, executable, field, &mut places)?;
+    }
+    Ok(places)
+}
+
+/// The first of the places at which a name stands that stood before.
+fn twice_line(alloc: Global, places: &[Listing]) -> Result<Option<u64>, AllocError>
+    ensures { IfOk result (λ line. line ≡ least_of (twice_lines places.now)) }
+{
+    let mut seen = HashSet::new(alloc);
+    let mut least = None;
+    for place in places {
+        if !add_name(alloc, &mut seen, &place.name)? {
+            least = sooner(least, Some(place.line));
+        }
+    }
+    Ok(least)
+}
+
+/// The first field that has a bad value, or the head where the main file is missing.
+#[tactic(auto, using(cabal_text::proofs::Sooner::least_append))]
+fn value_line(
+    alloc: Global,
+    executable: bool,
+    head: u64,
+    fields: &[Field],
+) -> Result<Option<u64>, AllocError>
+    ensures { IfOk result (λ line. line ≡ least_of (main_refused executable head fields.now ++ map (λ f. f.line) (filter (is_bad executable) fields.now))) }
+{
+    let bad = bad_line(alloc, executable, fields)?;
+    Ok(sooner(main_line(executable, head, fields), bad))
+}
+
+/// The first field that is given again, or that lists a name again.
+#[tactic(auto, using(cabal_text::proofs::Sooner::least_append))]
+fn second_line(alloc: Global, executable: bool, fields: &[Field]) -> Result<Option<u64>, AllocError>
+    ensures { IfOk result (λ line. line ≡ least_of (repeated executable fields.now ++ twice_lines (placed executable fields.now))) }
+{
+    let places = placed(alloc, executable, fields)?;
+    let twice = twice_line(alloc, places.as_slice())?;
+    Ok(sooner(repeated_line(executable, fields), twice))
+}
+
 /// The first line that is refused for the fields of a component.
-#[tactic(auto, using(crate::proofs::Sooner::least_append))]
+#[tactic(auto, using(cabal_text::proofs::Sooner::least_append))]
 fn fields_line(
     alloc: Global,
     executable: bool,
@@ -181,13 +271,13 @@ fn fields_line(
 ) -> Result<Option<u64>, AllocError>
     ensures { IfOk result (λ line. line ≡ least_of (fields_refused executable head fields.now)) }
 {
-    let bad = bad_line(alloc, executable, fields)?;
-    let later = sooner(bad, repeated_line(executable, fields));
-    Ok(sooner(main_line(executable, head, fields), later))
+    let value = value_line(alloc, executable, head, fields)?;
+    let second = second_line(alloc, executable, fields)?;
+    Ok(sooner(value, second))
 }
 
 /// The first refused line of a component.
-#[tactic(auto, using(crate::proofs::Sooner::least_append))]
+#[tactic(auto, using(cabal_text::proofs::Sooner::least_append))]
 fn component_line(
     alloc: Global,
     executable: bool,
@@ -218,10 +308,31 @@ fn shallow_line(lines: &[Line]) -> Option<u64>
     least
 }
 
+#[tactic(auto, unfolding(crate::specs::Package::lists_modules))]
+fn lists_modules(name: &[u8]) -> bool
+    ensures { result ≡ lists_modules name.now }
+{
+    is_word(name, b"exposed-modules")
+        || is_word(name, b"other-modules")
+        || is_word(name, b"signatures")
+        || is_word(name, b"reexported-modules")
+}
+
+#[tactic(auto, unfolding(crate::specs::Package::is_other_field))]
+fn is_other_field(name: &[u8]) -> bool
+    ensures { result ≡ is_other_field name.now }
+{
+    is_word(name, b"main-is")
+        || is_word(name, b"build-depends")
+        || is_word(name, b"mixins")
+        || is_word(name, b"hs-source-dirs")
+}
+
+/// Whether a field is one that some component reads.
 fn is_table_field(name: &[u8]) -> bool
     ensures { result ≡ is_table_field name.now }
 {
-    is_read(true, name) || is_read(false, name)
+    lists_modules(name) || is_other_field(name)
 }
 
 fn table_line(fields: &[Field]) -> Option<u64>
@@ -237,7 +348,7 @@ fn table_line(fields: &[Field]) -> Option<u64>
 }
 
 /// The first refused line of a common stanza.
-#[tactic(auto, using(crate::proofs::Sooner::least_append))]
+#[tactic(auto, using(cabal_text::proofs::Sooner::least_append))]
 fn common_line(alloc: Global, deeper: &[Line]) -> Result<Option<u64>, AllocError>
     ensures { IfOk result (λ line. line ≡ least_of (common_refused deeper.now)) }
 {
@@ -304,13 +415,12 @@ fn blocks_line(alloc: Global, lines: &[Line]) -> Result<Option<u64>, AllocError>
 }
 
 /// The first refused line of a package file.
-#[tactic(auto, using(crate::proofs::Sooner::least_append))]
-pub fn first_refused(alloc: Global, bytes: &[u8]) -> Result<Option<u64>, AllocError>
-    ensures { IfOk result (λ line. line ≡ least_of (package_refused (kept_lines bytes.now))) }
+#[tactic(auto, using(cabal_text::proofs::Sooner::least_append))]
+pub fn refused_line(alloc: Global, lines: &[Line]) -> Result<Option<u64>, AllocError>
+    ensures { IfOk result (λ line. line ≡ least_of (package_refused lines.now)) }
 {
-    let lines = kept_lines(alloc, bytes)?;
-    let fields = fields_at(alloc, 0, &lines)?;
+    let fields = fields_at(alloc, 0, lines)?;
     let named = name_line(alloc, &fields)?;
-    let later = sooner(deep_line(&lines), blocks_line(alloc, &lines)?);
+    let later = sooner(deep_line(lines), blocks_line(alloc, lines)?);
     Ok(sooner(named, later))
 }

@@ -2,13 +2,14 @@
 ghost use Rattle.std.specs.Prelude.{◌≡◌, ◌++◌, ◌∷◌, [], List, ℕ, OnOk, IfErr, MatchResult, IsTrue};
 ghost use Rattle.std.specs.List.{flat_map};
 ghost use Rattle.cabal_text.specs.Lines.{Block, kept_lines};
-ghost use Rattle.cabal_component.specs.Project.{trimmed, package_file, files_of, refused_at, is_conditional, shallow_lines, field_files, field_refused, stanza_refused, block_files, block_refused, project_files, project_refused, NamesFirst};
+ghost use Rattle.cabal_component.specs.Folder.{trimmed, package_file};
+ghost use Rattle.cabal_component.specs.Project.{files_of, refused_at, is_conditional, shallow_lines, field_files, field_refused, stanza_refused, block_files, block_refused, project_files, project_refused, NamesFirst};
 ghost use Rattle.cabal_component.specs.declared.project.ProjectError.TheVariants.{ProjectSyntax, NoMemory};
 
-use crate::fields::{field_of, first_word, is_word, next_item};
-use crate::items::{is_refused_item, package_file, trimmed};
-use crate::lines::{Line, deeper_len, kept_lines};
-use bp_base::Path;
+use crate::folder::{Paths, is_refused_item, package_file, trimmed};
+use cabal_text::fields::{field_of, first_word, is_word, next_item};
+use cabal_text::lines::{Line, deeper_len, kept_lines};
+use sqlite_items::Items;
 use std::alloc::{AllocError, Global};
 
 #[derive(Clone, Copy, Debug, PartialEq, Eq)]
@@ -26,22 +27,17 @@ impl From<AllocError> for ProjectError {
 }
 
 /// Adds the package file that an item names.
-fn add_file(alloc: Global, item: &[u8], files: &mut Vec<Path>) -> Result<(), AllocError>
-    ensures { OnOk result (files.new.items ≡ files.old.items ++ package_file (trimmed item.now) ∷ []) }
+fn add_file(alloc: Global, item: &[u8], files: &mut Paths) -> Result<(), AllocError>
+    ensures { OnOk result (files.new ≡ files.old ++ package_file (trimmed item.now) ∷ []) }
 {
     files.push(package_file(alloc, trimmed(item))?)?;
     Ok(())
 }
 
 /// Adds the package files that a list on this line names.
-fn read_list(
-    alloc: Global,
-    number: u64,
-    text: &[u8],
-    files: &mut Vec<Path>,
-) -> Result<(), ProjectError>
+fn read_list(alloc: Global, number: u64, text: &[u8], files: &mut Paths) -> Result<(), ProjectError>
     ensures { MatchResult result
-        (λ _. (refused_at number text.now ≡ []) × (files.new.items ≡ files.old.items ++ files_of text.now))
+        (λ _. (refused_at number text.now ≡ []) × (files.new ≡ files.old ++ files_of text.now))
         (λ e. NamesFirst e (refused_at number text.now)) }
 {
     let mut rest = text;
@@ -85,11 +81,11 @@ fn read_field(
     name: &[u8],
     value: &[u8],
     deeper: &[Line],
-    files: &mut Vec<Path>,
+    files: &mut Paths,
 ) -> Result<(), ProjectError>
     ensures { MatchResult result
         (λ _. (field_refused number (name.now, value.now) deeper.now ≡ [])
-        × (files.new.items ≡ files.old.items ++ field_files (name.now, value.now) deeper.now))
+        × (files.new ≡ files.old ++ field_files (name.now, value.now) deeper.now))
         (λ e. NamesFirst e (field_refused number (name.now, value.now) deeper.now)) }
 {
     if is_word(name, b"import") {
@@ -119,11 +115,11 @@ fn read_block(
     alloc: Global,
     line: &Line,
     deeper: &[Line],
-    files: &mut Vec<Path>,
+    files: &mut Paths,
 ) -> Result<(), ProjectError>
     ensures { MatchResult result
         (λ _. (block_refused (record { line = line.now; deeper = deeper.now }) ≡ [])
-        × (files.new.items ≡ files.old.items ++ block_files (record { line = line.now; deeper = deeper.now })))
+        × (files.new ≡ files.old ++ block_files (record { line = line.now; deeper = deeper.now })))
         (λ e. NamesFirst e (block_refused (record { line = line.now; deeper = deeper.now }))) }
 {
     match field_of(line.text.as_bytes()) {
@@ -133,12 +129,12 @@ fn read_block(
 }
 
 /// The package files that lines of a project name.
-fn read_blocks(alloc: Global, lines: &[Line]) -> Result<Vec<Path>, ProjectError>
+fn read_blocks(alloc: Global, lines: &[Line]) -> Result<Paths, ProjectError>
     ensures { MatchResult result
-        (λ files. (project_refused lines.now ≡ []) × (files.items ≡ project_files lines.now))
+        (λ files. (project_refused lines.now ≡ []) × (files ≡ project_files lines.now))
         (λ e. NamesFirst e (project_refused lines.now)) }
 {
-    let mut files = Vec::new(alloc);
+    let mut files = Items::new(alloc);
     let mut rest = lines;
     if let [first, ..] = lines
         && first.indent > 0
@@ -154,9 +150,9 @@ fn read_blocks(alloc: Global, lines: &[Line]) -> Result<Vec<Path>, ProjectError>
 }
 
 /// The package files that a project file names.
-pub fn read_project(alloc: Global, bytes: &[u8]) -> Result<Vec<Path>, ProjectError>
+pub fn read_project(alloc: Global, bytes: &[u8]) -> Result<Paths, ProjectError>
     ensures { MatchResult result
-        (λ files. (project_refused (kept_lines bytes.now) ≡ []) × (files.items ≡ project_files (kept_lines bytes.now)))
+        (λ files. (project_refused (kept_lines bytes.now) ≡ []) × (files ≡ project_files (kept_lines bytes.now)))
         (λ e. NamesFirst e (project_refused (kept_lines bytes.now))) }
 {
     let lines = kept_lines(alloc, bytes)?;

@@ -1,14 +1,12 @@
 //! The fields and stanzas of a package file.
-ghost use Rattle.std.specs.Prelude.{◌≡◌, ◌++◌, List, ℕ, IfOk, map};
-ghost use Rattle.std.specs.List.{filter};
+ghost use Rattle.std.specs.Prelude.{◌≡◌, List, ℕ, IfOk, codes, if◌then◌else◌};
 ghost use Rattle.cabal_text.specs.Least.{least_of};
-ghost use Rattle.cabal_text.specs.Fields.{is_word};
-ghost use Rattle.cabal_component.specs.Stanzas.{joined, fields_at, is_odd, odd_lines, indent_in, is_common_field, is_read, lines_named, again, repeated};
+ghost use Rattle.cabal_component.specs.Stanzas.{joined, fields_at, is_odd, odd_lines, indent_in, lines_named, given_again, shared_again, library_again, repeated, value_named};
 
-use crate::fields::{field_of, is_word};
-use crate::least::sooner;
-use crate::lines::{Line, deeper_len};
 use bp_base::Bytes;
+use cabal_text::fields::{field_of, is_word};
+use cabal_text::least::sooner;
+use cabal_text::lines::{Line, deeper_len};
 use std::alloc::{AllocError, Global};
 
 /// A field with its value over all its lines.
@@ -83,33 +81,6 @@ pub fn indent_in(lines: &[Line]) -> usize
     }
 }
 
-/// Whether a field is one of both kinds of component.
-#[tactic(auto, unfolding(crate::specs::Stanzas::is_common_field))]
-fn is_common_field(name: &[u8]) -> bool
-    ensures { result ≡ is_common_field name.now }
-{
-    is_word(name, b"other-modules")
-        || is_word(name, b"build-depends")
-        || is_word(name, b"mixins")
-        || is_word(name, b"hs-source-dirs")
-        || is_word(name, b"signatures")
-}
-
-/// Whether a field isn't ignored in an executable, or else in a library.
-#[tactic(auto, unfolding(crate::specs::Stanzas::is_read))]
-pub fn is_read(executable: bool, name: &[u8]) -> bool
-    ensures { result ≡ is_read executable name.now }
-{
-    if is_common_field(name) {
-        return true;
-    }
-    if executable {
-        is_word(name, b"main-is")
-    } else {
-        is_word(name, b"exposed-modules") || is_word(name, b"reexported-modules")
-    }
-}
-
 /// The first field of this name.
 pub fn line_named(name: &[u8], fields: &[Field]) -> Option<u64>
     ensures { result ≡ least_of (lines_named name.now fields.now) }
@@ -123,26 +94,77 @@ pub fn line_named(name: &[u8], fields: &[Field]) -> Option<u64>
     least
 }
 
-/// The first of these fields that gives one again which isn't ignored.
-fn again_line(executable: bool, field: &Field, after: &[Field]) -> Option<u64>
-    ensures { result ≡ least_of (again executable field.now after.now) }
+/// The first field that gives this name again.
+fn again_line(name: &[u8], fields: &[Field]) -> Option<u64>
+    ensures { result ≡ least_of (given_again name.now fields.now) }
 {
-    if is_read(executable, field.name.as_bytes()) {
-        line_named(field.name.as_bytes(), after)
+    let mut rest = fields;
+    while let [field, after @ ..] = rest {
+        if is_word(field.name.as_bytes(), name) {
+            return line_named(name, after);
+        }
+        rest = after;
+    }
+    None
+}
+
+#[tactic(auto, using(cabal_text::proofs::Sooner::least_append))]
+fn shared_again_line(fields: &[Field]) -> Option<u64>
+    ensures { result ≡ least_of (shared_again fields.now) }
+{
+    let one = sooner(
+        again_line(b"other-modules", fields),
+        again_line(b"build-depends", fields),
+    );
+    let other = sooner(
+        again_line(b"mixins", fields),
+        again_line(b"hs-source-dirs", fields),
+    );
+    sooner(one, other)
+}
+
+#[tactic(auto, using(cabal_text::proofs::Sooner::least_append))]
+fn library_again_line(fields: &[Field]) -> Option<u64>
+    ensures { result ≡ least_of (library_again fields.now) }
+{
+    let other = sooner(
+        again_line(b"signatures", fields),
+        again_line(b"reexported-modules", fields),
+    );
+    sooner(again_line(b"exposed-modules", fields), other)
+}
+
+fn kind_again_line(executable: bool, fields: &[Field]) -> Option<u64>
+    ensures { result ≡ least_of (if executable then given_again (codes "main-is") fields.now else library_again fields.now) }
+{
+    if executable {
+        again_line(b"main-is", fields)
     } else {
-        None
+        library_again_line(fields)
     }
 }
 
-/// The first field that is given again and isn't ignored.
+/// The first field that is given again, of those that a component reads.
+#[tactic(auto, using(cabal_text::proofs::Sooner::least_append))]
 pub fn repeated_line(executable: bool, fields: &[Field]) -> Option<u64>
     ensures { result ≡ least_of (repeated executable fields.now) }
 {
-    let mut least = None;
+    sooner(
+        shared_again_line(fields),
+        kind_again_line(executable, fields),
+    )
+}
+
+/// The value of the first field of a name; nothing where there is none.
+pub fn value_named<'a>(name: &[u8], fields: &'a [Field]) -> &'a [u8]
+    ensures { result.now ≡ value_named name.now fields.now }
+{
     let mut rest = fields;
     while let [field, after @ ..] = rest {
-        least = sooner(least, again_line(executable, field, after));
+        if is_word(field.name.as_bytes(), name) {
+            return field.value.as_bytes();
+        }
         rest = after;
     }
-    least
+    b""
 }

@@ -2,3 +2,4 @@ pub mod Splits
 pub mod Listed
 pub mod Sooner
 pub mod Wordy
+pub mod Before

@@ -5,3 +5,4 @@ pub mod Least
 pub mod Tokens
 pub mod Names
 pub mod Lead
+pub mod Seen

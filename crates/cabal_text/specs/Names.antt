@@ -4,6 +4,7 @@ use Rattle.std.specs.List.{prefix_len, list_any, list_all, slice_split}
 use Rattle.std.specs.Char.{is_ascii_alphanumeric, is_ascii_uppercase}
 use Rattle.bp_base.specs.declared.linking.Rename.{Rename}
 use Rattle.cabal_text.specs.declared.tokens.Brackets.TheVariants.{Round}
+use Rattle.cabal_text.specs.Fields.{items_of}
 use Rattle.cabal_text.specs.Tokens.{is_text, items_at, without_comma, each_read}
 
 -- a character of a module's name after its first
@@ -58,3 +59,11 @@ name_of (name ∷ next ∷ more) = None
 -- module names between commas
 abbrev pub names_of : List (List ℕ) → Option (List (List ℕ))
 names_of tokens = each_read name_of (items_at Round 0 (without_comma tokens))
+
+-- the text where it is a module's name
+abbrev pub module_name : List ℕ → Option (List ℕ)
+module_name text = if is_module_name text then Some text else None
+
+-- module names between spaces and commas
+abbrev pub module_names : List ℕ → Option (List (List ℕ))
+module_names value = each_read module_name (items_of value)

@@ -6,9 +6,7 @@ pub mod fields;
 pub mod least;
 pub mod lines;
 pub mod names;
+pub mod seen;
 pub mod tokens;
 
 pub use characters::{is_field_char, is_gap, is_space};
-
-#[cfg(test)]
-mod tests;

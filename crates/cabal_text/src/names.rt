@@ -2,8 +2,9 @@
 ghost use Rattle.std.specs.Prelude.{◌≡◌, ◌≤◌, List, ℕ, IfOk, length, not, ◌==◌};
 ghost use Rattle.std.specs.List.{prefix_len, list_all};
 ghost use Rattle.std.specs.Char.{is_ascii_alphanumeric};
-ghost use Rattle.cabal_text.specs.Names.{is_name_char, is_part, is_module_name, is_run, is_package_name, is_dependency, rename, rename_of, renames_of, name_of, names_of};
+ghost use Rattle.cabal_text.specs.Names.{is_name_char, is_part, is_module_name, is_run, is_package_name, is_dependency, rename, rename_of, renames_of, name_of, names_of, module_name, module_names};
 
+use crate::fields;
 use crate::tokens::{Brackets, next_item, without_comma};
 use bp_base::{Bytes, Name, Names, Rename, Renames};
 use sqlite_items::Items;
@@ -161,6 +162,22 @@ pub fn names_of(alloc: Global, tokens: &[Bytes]) -> Result<Option<Names>, AllocE
             return Ok(None);
         };
         names.push(name)?;
+        rest = after;
+    }
+    Ok(Some(names))
+}
+
+/// Module names between spaces and commas.
+pub fn module_names(alloc: Global, value: &[u8]) -> Result<Option<Names>, AllocError>
+    ensures { IfOk result (λ found. found ≡ module_names value.now) }
+{
+    let mut names = Items::new(alloc);
+    let mut rest = value;
+    while let Some((item, after)) = fields::next_item(rest) {
+        if !is_module_name(item) {
+            return Ok(None);
+        }
+        names.push(Name::from_bytes(alloc, item)?)?;
         rest = after;
     }
     Ok(Some(names))

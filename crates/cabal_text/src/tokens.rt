@@ -9,7 +9,7 @@ use bp_base::Bytes;
 use std::alloc::{AllocError, Global};
 
 #[tactic(auto, unfolding(crate::specs::Tokens::is_blank))]
-fn is_blank(b: u8) -> bool
+pub fn is_blank(b: u8) -> bool
     ensures { result ≡ is_blank b }
 {
     is_space(b) || b == b'\n'
