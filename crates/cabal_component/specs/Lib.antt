@@ -5,3 +5,6 @@ pub mod Heads
 pub mod Values
 pub mod Entries
 pub mod Package
+pub mod Reading
+pub mod Includes
+pub mod Lawful

@@ -5,13 +5,16 @@ mod component;
 mod entries;
 mod folder;
 mod heads;
+mod include;
 mod package;
 mod project;
+mod reading;
 mod stanzas;
 mod values;
 
 pub use component::{Component, Components, Mixin, Mixins, Provides, copied_mixins};
-pub use entries::mixins_of;
+pub use entries::{new_names, old_names};
 pub use folder::{Paths, copied_paths};
-pub use package::first_refused;
+pub use include::includes;
 pub use project::{ProjectError, read_project};
+pub use reading::{ComponentError, read_component};

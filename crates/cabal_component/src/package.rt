@@ -20,7 +20,7 @@ use cabal_text::fields::{field_of, is_word};
 use cabal_text::least::sooner;
 use cabal_text::lines::{Line, deeper_len};
 use cabal_text::names::{module_names, renames_of};
-use cabal_text::seen::add_name;
+use cabal_text::seen::{add_name, is_among};
 use cabal_text::tokens::tokens_of;
 use sqlite_items::Items;
 use std::alloc::{AllocError, Global};
@@ -77,18 +77,6 @@ fn is_bad_library(alloc: Global, field: &Field) -> Result<bool, AllocError>
         return Ok(renames_of(alloc, &tokens)?.is_none());
     }
     Ok(false)
-}
-
-/// Whether a name is one of these.
-pub fn is_among(name: &[u8], names: &[Name]) -> bool
-    ensures { result ≡ is_among name.now names.now }
-{
-    for each in names {
-        if name == each.as_bytes() {
-            return true;
-        }
-    }
-    false
 }
 
 /// The names that a value lists; none where it is no list of names.

@@ -9,14 +9,14 @@ use crate::component::{Component, Components, Mixin, Mixins};
 use crate::entries::mixins_of;
 use crate::folder::{Paths, folders_of};
 use crate::heads::{Head, component_name, head_of, library_name, named, package_of};
-use crate::package::{is_among, names_in, refused_line};
+use crate::package::{names_in, refused_line};
 use crate::stanzas::{Field, fields_at, indent_in, value_named};
 use crate::values::{ranged_names, source_name};
 use bp_base::{Bytes, Name, Names, Path, Renames};
 use cabal_text::fields::field_of;
 use cabal_text::lines::{Line, deeper_len, kept_lines};
 use cabal_text::names::renames_of;
-use cabal_text::seen::distinct;
+use cabal_text::seen::{distinct, is_among};
 use cabal_text::tokens::tokens_of;
 use sqlite_items::Items;
 use std::alloc::{AllocError, Global};
@@ -25,9 +25,7 @@ use std::alloc::{AllocError, Global};
 #[derive(Clone, Copy, Debug, PartialEq, Eq)]
 pub enum ComponentError {
     /// The first line that is refused, counted from 1 over all lines.
-    ComponentSyntax {
-        line: u64,
-    },
+    ComponentSyntax { line: u64 },
     NoMemory,
 }
 
@@ -318,9 +316,7 @@ fn component_in(
         }
         Head::Executable => {
             let name = component_name(alloc, owner.as_bytes(), true, named(&words))?;
-            Ok(Some(executable_with(
-                alloc, file, owner, own, name, &fields,
-            )?))
+            Ok(Some(executable_with(alloc, file, owner, own, name, &fields)?))
         }
         Head::Common | Head::Ignored | Head::Other => Ok(None),
     }
@@ -340,8 +336,14 @@ fn components_in(
     let mut rest = lines;
     while let [line, after @ ..] = rest {
         if line.indent == 0
-            && let Some(component) =
-                component_in(alloc, file, owner, own, line, &after[..deeper_len(0, after)])?
+            && let Some(component) = component_in(
+                alloc,
+                file,
+                owner,
+                own,
+                line,
+                &after[..deeper_len(0, after)],
+            )?
         {
             all.push(component)?;
         }

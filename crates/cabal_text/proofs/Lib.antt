@@ -2,4 +2,3 @@ pub mod Splits
 pub mod Listed
 pub mod Sooner
 pub mod Wordy
-pub mod Before

@@ -9,6 +9,18 @@ use sqlite_items::Items;
 use std::alloc::{AllocError, Global};
 use std::collections::HashSet;
 
+/// Whether a name is one of these.
+pub fn is_among(name: &[u8], names: &[Name]) -> bool
+    ensures { result ≡ is_among name.now names.now }
+{
+    for each in names {
+        if name == each.as_bytes() {
+            return true;
+        }
+    }
+    false
+}
+
 /// Adds a name, and answers whether it is new.
 pub fn add_name(alloc: Global, seen: &mut HashSet<Name>, name: &Name) -> Result<bool, AllocError>
     ensures new { IfOk result (λ added. added ≡ not (contains bytes_eq seen.old name.now)) }

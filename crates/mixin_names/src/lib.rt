@@ -2,9 +2,12 @@
 #![tactic(auto)]
 
 mod error;
-mod needs;
-mod provides;
+mod provision;
+mod requirement;
 
 pub use error::NameError;
-pub use needs::needs;
-pub use provides::provides;
+pub use provision::provides;
+pub use requirement::needs;
+
+#[cfg(test)]
+mod tests;
