@@ -24,7 +24,7 @@ deep_step ls i line least new total h e d n t =
     ∙ ap (λ (ns : List ℕ). sooner least (least_of ns)) (deep_more line (drop (i + 1) ls) deep) in
     rw (n, sooner_assoc) (sym more ∙ t)
 
-block_here : (l : Line) (ls : List Line) → l.indent ≡ 0 → blocks 0 (l ∷ ls) ≡ block l (deeper_than 0 ls) ∷ blocks 0 ls
+pub block_here : (l : Line) (ls : List Line) → l.indent ≡ 0 → blocks 0 (l ∷ ls) ≡ block l (deeper_than 0 ls) ∷ blocks 0 ls
 block_here l ls e = grind (arith, common_steps)
 
 -- one more block of indent 0

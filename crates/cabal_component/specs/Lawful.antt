@@ -2,7 +2,6 @@
 use Rattle.std.specs.Prelude.{◌≡◌, ℕ, true, false, List, [], ◌∷◌, ◌++◌, map, codes, if◌then◌else◌}
 use Rattle.std.specs.List.{AllByRecursion}
 use Rattle.bp_base.specs.Lists.{Among, AreDistinct}
-use Rattle.bp_base.specs.declared.linking.Rename.{Rename}
 use Rattle.cabal_component.specs.declared.component.Component.{Component}
 use Rattle.cabal_component.specs.declared.component.Mixin.{Mixin}
 use Rattle.cabal_component.specs.declared.component.Provides.{Provides}

@@ -4,7 +4,7 @@ use Rattle.std.specs.List.{filter, flat_map, list_any}
 use Rattle.cabal_text.specs.declared.lines.Line.{Line}
 use Rattle.cabal_text.specs.Lines.{Block, blocks, deeper_than}
 use Rattle.cabal_text.specs.Fields.{field_of, is_word}
-use Rattle.cabal_text.specs.Tokens.{is_text, tokens_of}
+use Rattle.cabal_text.specs.Tokens.{tokens_of}
 use Rattle.cabal_text.specs.Names.{renames_of, module_names}
 use Rattle.cabal_text.specs.Seen.{is_among}
 use Rattle.cabal_component.specs.declared.stanzas.Field.{Field}

@@ -1,4 +1,4 @@
-use Rattle.std.proofs.Common.{◌≡◌, ◌+◌, drop, not}
+use Rattle.std.proofs.Common.{◌≡◌, ◌+◌, drop}
 use Rattle.std.specs.List.{prefix_len}
 use Rattle.cabal_text.specs.Tokens.{is_blank}
 use Rattle.cabal_component.proofs.values.blank_len.Given as goal
