@@ -28,9 +28,9 @@ use std::collections::HashSet;
 
 /// A name with the line of the field that lists it.
 #[derive(Debug, Drop)]
-struct Listing {
-    line: u64,
-    name: Name,
+pub struct Listing {
+    pub line: u64,
+    pub name: Name,
 }
 
 /// Whether a value is a list of module names.

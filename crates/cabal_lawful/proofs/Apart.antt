@@ -46,17 +46,17 @@ pub record IsFresh (seen ns : List Text) : Type 0 where
   pub apart : (a : Text) → Among a ns → is_among a seen ≡ false
   pub distinct : AreDistinct ns
 
-fresh_nil : (seen : List Text) → IsFresh seen []
+pub fresh_nil : (seen : List Text) → IsFresh seen []
 fresh_nil seen = record { apart = λ a h. absurd h; distinct = tt }
 
-fresh_less : (seen : List Text) (n : Text) (ns : List Text) → IsFresh (seen ++ n ∷ []) ns → IsFresh seen ns
+pub fresh_less : (seen : List Text) (n : Text) (ns : List Text) → IsFresh (seen ++ n ∷ []) ns → IsFresh seen ns
 fresh_less seen n ns f = record { apart = λ a h. fewer seen n a (f.apart a h); distinct = f.distinct }
 
 apart_at : (seen : List Text) (n a : Text) (ns : List Text) → is_among n seen ≡ false → IsFresh (seen ++ n ∷ []) ns → (n ≡ a) ⊎ Among a ns → is_among a seen ≡ false
 apart_at seen n a ns e f (inl p) = subst (λ x. is_among x seen ≡ false) p e
 apart_at seen n a ns e f (inr h) = fewer seen n a (f.apart a h)
 
-fresh_more : (seen : List Text) (n : Text) (ns : List Text) → is_among n seen ≡ false → IsFresh (seen ++ n ∷ []) ns → IsFresh seen (n ∷ ns)
+pub fresh_more : (seen : List Text) (n : Text) (ns : List Text) → is_among n seen ≡ false → IsFresh (seen ++ n ∷ []) ns → IsFresh seen (n ∷ ns)
 fresh_more seen n ns e f = record {
   apart = λ a h. apart_at seen n a ns e f h;
   distinct = (λ h. other seen n (f.apart n h), f.distinct);

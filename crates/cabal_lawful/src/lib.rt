@@ -1,9 +1,9 @@
-//! Every component that is read is lawful.
+//! Every component that `read_component` answers is lawful.
 #![tactic(auto)]
 
-ghost use Rattle.cabal_lawful.specs.Laws.{DistinctLaw};
+ghost use Rattle.cabal_lawful.specs.Laws.{AreLawful};
 
-/// Each name once, at its first place: no name stands twice, and each name is kept.
-pub fn names_are_apart()
-    ensures { DistinctLaw }
+/// Where no line of a package file is refused, its components are lawful.
+pub fn components_are_lawful()
+    ensures { AreLawful }
 {}

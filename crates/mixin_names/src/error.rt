@@ -6,13 +6,9 @@ use std::alloc::AllocError;
 #[derive(Debug, Drop)]
 pub enum NameError {
     /// A listed or hidden name that the dependency does not provide.
-    NoProvision {
-        name: Name,
-    },
+    NoProvision { name: Name },
     /// A name in `requires` that is no hole of the dependency.
-    NoRequirement {
-        name: Name,
-    },
+    NoRequirement { name: Name },
     NoMemory,
 }
 

@@ -131,11 +131,7 @@ fn missing_provision(
 /// What an entry brings of a dependency that exposes these modules: all of them; each listed one under its new name, by item and
 /// then in their order; or all but the hidden ones (Cabal manual, "mixins"). The refusal is NoProvision with the first listed or
 /// hidden name that isn't exposed.
-pub fn provides(
-    alloc: Global,
-    entry: &Mixin,
-    exposed: &Provisions,
-) -> Result<Provisions, NameError>
+pub fn provides(alloc: Global, entry: &Mixin, exposed: &Provisions) -> Result<Provisions, NameError>
     ensures { MatchResult result
         (λ found. (missing_provision entry.now.provides exposed.now ≡ None) × (found ≡ provided entry.now.provides exposed.now))
         (λ e. NamesProvision e (missing_provision entry.now.provides exposed.now)) }

@@ -65,9 +65,5 @@ pub fn needs(alloc: Global, entry: &Mixin, holes: &Names) -> Result<Renames, Nam
     if let Some(name) = missing {
         return Err(NameError::NoRequirement { name });
     }
-    Ok(all_linked(
-        alloc,
-        entry.needs.as_slice(),
-        holes.as_slice(),
-    )?)
+    Ok(all_linked(alloc, entry.needs.as_slice(), holes.as_slice())?)
 }

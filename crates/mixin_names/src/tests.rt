@@ -6,7 +6,12 @@ use sqlite_items::Items;
 use std::alloc::{AllocError, Global};
 use std::test::Fail;
 
-fn add_provision(alloc: Global, all: &mut Provisions, name: &[u8], hole: &[u8]) -> Result<(), AllocError> {
+fn add_provision(
+    alloc: Global,
+    all: &mut Provisions,
+    name: &[u8],
+    hole: &[u8],
+) -> Result<(), AllocError> {
     all.push(Provision {
         name: Name::from_bytes(alloc, name)?,
         ident: Ident::Hole {
@@ -74,7 +79,9 @@ fn linked(alloc: Global, from: &[u8], to: &[u8], holes: &Names) -> Result<Vec<u8
 fn shown(found: Result<Vec<u8>, NameError>) -> Result<Vec<u8>, AllocError> {
     match found {
         Ok(text) => Ok(text),
-        Err(NameError::NoProvision { name } | NameError::NoRequirement { name }) => Ok(name.into_vec()),
+        Err(NameError::NoProvision { name } | NameError::NoRequirement { name }) => Ok(
+            name.into_vec(),
+        ),
         Err(NameError::NoMemory) => Err(AllocError),
     }
 }
