@@ -1,5 +1,5 @@
 -- The entries of `mixins` that are read.
-use Rattle.std.proofs.Common.{◌≡◌, ◌⊎◌, inl, inr, refl, sym, ap, ◌∙◌, subst, ℕ, Bool, true, false, ◌==◌, cond, codes, List, [], ◌∷◌, length, map, Option, Some, None, option_map, arith}
+use Rattle.std.proofs.Common.{◌≡◌, inl, inr, refl, subst, Bool, true, false, ◌==◌, cond, codes, List, [], ◌∷◌, length, map, Option, Some, None, option_map}
 use Rattle.std.specs.List.{AllByRecursion}
 use Rattle.bp_base.specs.declared.linking.Rename.{Rename}
 use Rattle.bp_base.specs.Lists.{Among, AreDistinct}

@@ -1,18 +1,16 @@
 -- The own modules and signatures of a component: no name stands twice among them.
-use Rattle.std.proofs.Common.{◌≡◌, ◌⊎◌, inl, inr, ⊎_elim, refl, sym, ap, ◌∙◌, subst, ℕ, Bool, true, false, ◌||◌, cond, codes, List, [], ◌∷◌, ◌++◌, map, arith, append_assoc}
-use Rattle.std.specs.List.{flat_map}
-use Rattle.std.specs.Str.{bytes_eq, str_to_ascii_lowercase, str_eq_ignore_ascii_case}
+use Rattle.std.proofs.Common.{◌≡◌, ◌⊎◌, inl, inr, refl, sym, ap, ◌∙◌, subst, ℕ, Bool, true, false, cond, List, [], ◌∷◌, ◌++◌, map}
+use Rattle.std.specs.Str.{bytes_eq, str_to_ascii_lowercase}
 use Rattle.bp_base.specs.Lists.{Among, AreDistinct}
 use Rattle.bp_base.specs.Texts.{Text}
 use Rattle.bp_base.proofs.Texts.{same_texts}
-use Rattle.cabal_text.specs.Fields.{is_word, items_of}
+use Rattle.cabal_text.specs.Fields.{is_word}
 use Rattle.cabal_text.specs.Names.{module_names}
 use Rattle.cabal_text.specs.Seen.{is_among}
 use Rattle.cabal_text.proofs.Listed.{items_none}
 use Rattle.cabal_component.specs.declared.stanzas.Field.{Field}
 use Rattle.cabal_component.specs.declared.package.Listing.{Listing}
-use Rattle.cabal_component.specs.Stanzas.{value_named}
-use Rattle.cabal_component.specs.Package.{or_none, lists_own, place, placed_in, placed, twice_after, twice_lines}
+use Rattle.cabal_component.specs.Package.{or_none, lists_own, place, placed_in, placed, twice_after}
 use Rattle.cabal_component.specs.Reading.{names_named}
 use Rattle.cabal_lawful.proofs.Apart.{IsFresh, fresh_nil, fresh_more, among_left, among_right}
 
@@ -79,17 +77,17 @@ owned executable f e = rw e (place_names f.line (field_names f))
 placed_more : (executable : Bool) (f : Field) (fs : List Field) → listed (placed executable (f ∷ fs)) ≡ listed (placed_in executable f) ++ listed (placed executable fs)
 placed_more executable f fs = listed_append (placed_in executable f) (placed executable fs)
 
-none_named : (name : Text) → names_named name [] ≡ []
+pub none_named : (name : Text) → names_named name [] ≡ []
 none_named name = rw (items_none [] refl) refl
 
 -- the field of this name lists own names
 abbrev pub Owns : Bool → Text → Type 0
 Owns executable name = (text : Text) → is_word text name ≡ true → lists_own executable text ≡ true
 
-named_here : (name : Text) (f : Field) (fs : List Field) → is_word f.name name ≡ true → names_named name (f ∷ fs) ≡ field_names f
+pub named_here : (name : Text) (f : Field) (fs : List Field) → is_word f.name name ≡ true → names_named name (f ∷ fs) ≡ field_names f
 named_here name f fs e = rw e refl
 
-named_later : (name : Text) (f : Field) (fs : List Field) → is_word f.name name ≡ false → names_named name (f ∷ fs) ≡ names_named name fs
+pub named_later : (name : Text) (f : Field) (fs : List Field) → is_word f.name name ≡ false → names_named name (f ∷ fs) ≡ names_named name fs
 named_later name f fs e = rw e refl
 
 among_step : (executable : Bool) (name a : Text) (f : Field) (fs : List Field) (r : Bool) → Owns executable name → is_word f.name name ≡ r

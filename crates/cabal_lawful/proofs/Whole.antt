@@ -1,5 +1,5 @@
 -- The components of a package file are lawful.
-use Rattle.std.proofs.Common.{◌≡◌, ◌⊎◌, inl, inr, ⊎_elim, refl, sym, ap, ◌∙◌, subst, ℕ, Bool, true, false, ◌||◌, not, is_some, cond, codes, List, [], ◌∷◌, ◌++◌, map, Option, Some, None, arith, append-nil}
+use Rattle.std.proofs.Common.{◌≡◌, ◌⊎◌, inl, inr, refl, sym, subst, Bool, true, false, ◌||◌, not, is_some, cond, codes, List, [], ◌∷◌, ◌++◌, map, Option, Some, None, append-nil}
 use Rattle.std.specs.List.{AllByRecursion, filter, flat_map, filter_map, cons_option}
 use Rattle.bp_base.specs.Lists.{Among, AreDistinct}
 use Rattle.bp_base.specs.Texts.{Text}
@@ -7,7 +7,7 @@ use Rattle.cabal_text.specs.declared.lines.Line.{Line}
 use Rattle.cabal_text.specs.Lines.{Block, blocks, deeper_than}
 use Rattle.cabal_text.specs.Fields.{field_of, is_word}
 use Rattle.cabal_text.specs.Tokens.{tokens_of}
-use Rattle.cabal_text.specs.Seen.{is_among, distinct}
+use Rattle.cabal_text.specs.Seen.{is_among}
 use Rattle.cabal_component.specs.declared.stanzas.Field.{Field}
 use Rattle.cabal_component.specs.declared.component.Component.{Component}
 use Rattle.cabal_component.specs.declared.component.Mixin.{Mixin}
@@ -16,7 +16,7 @@ use Rattle.cabal_component.specs.declared.heads.Head.TheVariants.{Library, Execu
 use Rattle.cabal_component.specs.Stanzas.{fields_at, indent_in, odd_lines, repeated, value_named}
 use Rattle.cabal_component.specs.Heads.{refused_names, head_of, named, package_of, component_name}
 use Rattle.cabal_component.specs.Values.{source_name}
-use Rattle.cabal_component.specs.Package.{or_none, lists_own, is_bad_shared, is_bad_executable, is_bad, placed, twice_lines, main_refused, stanza_refused, block_refused, package_refused}
+use Rattle.cabal_component.specs.Package.{is_bad_shared, is_bad_executable, is_bad, placed, twice_lines, main_refused, stanza_refused, block_refused, package_refused}
 use Rattle.cabal_component.specs.Reading.{own_libraries, listed_in, mixins_in, deps_in, names_named, library_with, executable_with, component_if, component_in, components_of}
 use Rattle.cabal_component.specs.Lawful.{IsLawful, IsLawfulEntry}
 use Rattle.cabal_lawful.proofs.Apart.{none_later, not_among, among_right, distinct_keeps, distinct_apart}
@@ -117,11 +117,11 @@ executable_ok : (file owner : Text) (own : List Text) (name : Text) (fs : List F
     → IsLawful (executable_with file owner own name fs)
 executable_ok file owner own name fs b t = record {
   own = executable_names (names_named (codes "other-modules") fs) (main_apart fs b)
-    (named_distinct true (codes "other-modules") (owns_other true) fs ((twice_none [] (placed true fs) t).distinct));
+      (named_distinct true (codes "other-modules") (owns_other true) fs ((twice_none [] (placed true fs) t).distinct));
   deps = deps_apart owner own fs;
   entries = mixed_ok owner own fs;
   library = λ e. absurd (cc);
-  executable = λ e. (refl, (refl, refl));
+  executable = λ e. (refl, refl, refl);
 }
 
 head_step : (file owner : Text) (own : List Text) (h : Head) (name : Text) (l : Line) (deeper : List Line) (c : Component) → stanza_refused h l deeper ≡ []
