@@ -1,0 +1,6 @@
+use Rattle.std.proofs.Common.{◌≡◌, ◌++◌, drop, map}
+use Rattle.cabal_component.specs.Reading.{resolved}
+use Rattle.cabal_component.proofs.reading.all_resolved.Given as goal
+
+abbrev pub invariant-loop-name : goal.invariant-loop-name
+invariant-loop-name l = l.all ++ map (resolved l.owner l.own) (drop l.name-index l.names) ≡ map (resolved l.owner l.own) l.names

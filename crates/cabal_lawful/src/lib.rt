@@ -1,0 +1,9 @@
+//! Every component that `read_component` answers is lawful.
+#![tactic(auto)]
+
+ghost use Rattle.cabal_lawful.specs.Laws.{AreLawful};
+
+/// Where no line of a package file is refused, its components are lawful.
+pub fn components_are_lawful()
+    ensures { AreLawful }
+{}

@@ -1,0 +1,5 @@
+//! Worked project files and package files.
+#![tactic(auto)]
+
+#[cfg(test)]
+mod tests;

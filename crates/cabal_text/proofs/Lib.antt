@@ -1,0 +1,4 @@
+pub mod Splits
+pub mod Listed
+pub mod Sooner
+pub mod Wordy

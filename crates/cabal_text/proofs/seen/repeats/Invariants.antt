@@ -1,0 +1,10 @@
+use Rattle.std.proofs.Common.{◌≡◌, List, ℕ, take, drop}
+use Rattle.std.specs.HashSet.{contains}
+use Rattle.std.specs.Str.{bytes_eq}
+use Rattle.cabal_text.specs.Seen.{is_among, repeats_after, repeats}
+use Rattle.cabal_text.proofs.seen.repeats.Given as goal
+
+abbrev pub invariant-loop-name : goal.invariant-loop-name
+invariant-loop-name l =
+    (repeats_after (take l.name-index l.names) (drop l.name-index l.names) ≡ repeats l.names)
+    × ((q : List ℕ) → contains bytes_eq l.seen q ≡ is_among q (take l.name-index l.names))
