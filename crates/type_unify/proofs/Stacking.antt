@@ -158,3 +158,43 @@ Performs-app f m i g a old new before after e s t lg la =
 pub OnOk-then : {X E P Q : Type 0} → (r : Result X E) → (P → Q) → OnOk r P → OnOk r Q
 OnOk-then (Ok x) f h = f h
 OnOk-then (Err e) f h = tt
+
+pub Looks-true : (f : ℕ → Plain) (m x i : ℕ) (old new : List ℕ) (b : Bool) → Looks f m x i old new b → b ≡ true → occurs_in x (f i) ≡ true
+Looks-true f m x i old new b h e = subst (Looks f m x i old new) e h
+
+pub Looks-false : (f : ℕ → Plain) (m x i : ℕ) (old new : List ℕ) (b : Bool) → Looks f m x i old new b → b ≡ false → Unseen f m x i old new
+Looks-false f m x i old new b h e = subst (Looks f m x i old new) e h
+
+-- one turn of the loop that writes a type
+pub visit_within : (m : ℕ) (old popped : List Task) (t : Task) (i : ℕ) → TasksBelow m old → old ≡ popped ++ t ∷ [] → t ≡ Visit i → i < m
+visit_within m old popped t i h e k =
+    (subst (λ v. TasksBelow m (v ∷ [])) k (TasksBelow-front m popped t (subst (TasksBelow m) e h)).1).0
+
+pub front_within : (m : ℕ) (old popped : List Task) (t : Task) → TasksBelow m old → old ≡ popped ++ t ∷ [] → TasksBelow m popped
+front_within m old popped t h e = (TasksBelow-front m popped t (subst (TasksBelow m) e h)).0
+
+written-popped : (f : ℕ → Plain) (old popped : List Task) (t : Task) → old ≡ popped ++ t ∷ [] → written f old ≡ nodes_of_task f t ++ written f popped
+written-popped f old popped t e = ap (written f) e ∙ written-push f popped t
+
+load-popped : (f : ℕ → Plain) (old popped : List Task) (t : Task) → old ≡ popped ++ t ∷ [] → load f old ≡ load_of_task f t + load f popped
+load-popped f old popped t e = ap (load f) e ∙ load-push f popped t
+
+pub visit_same : (f : ℕ → Plain) (m i : ℕ) (old popped new : List Task) (t : Task) (before after all : List Node) → old ≡ popped ++ t ∷ [] → t ≡ Visit i → Performs f m i popped new before after → before ++ written f old ≡ all → after ++ written f new ≡ all
+visit_same f m i old popped new t before after all e k p h =
+    p.same ∙ append_assoc before (nodes_of (f i)) (written f popped)
+    ∙ sym (ap (λ r. before ++ r) (written-popped f old popped t e ∙ ap (λ v. nodes_of_task f v ++ written f popped) k)) ∙ h
+
+pub visit_fewer : (f : ℕ → Plain) (m i : ℕ) (old popped new : List Task) (t : Task) (before after : List Node) → old ≡ popped ++ t ∷ [] → t ≡ Visit i → Performs f m i popped new before after → load f new < load f old
+visit_fewer f m i old popped new t before after e k p =
+    let z : load f old ≡ 2 * size (f i) + load f popped = load-popped f old popped t e ∙ ap (λ v. load_of_task f v + load f popped) k in
+    omega (arith, z, p.fewer)
+
+pub join_same : (f : ℕ → Plain) (old popped : List Task) (t : Task) (before after all : List Node) → old ≡ popped ++ t ∷ [] → t ≡ Join → after ≡ before ++ App ∷ [] → before ++ written f old ≡ all → after ++ written f popped ≡ all
+join_same f old popped t before after all e k a h =
+    ap (λ r. r ++ written f popped) a ∙ append_assoc before (App ∷ []) (written f popped)
+    ∙ sym (ap (λ r. before ++ r) (written-popped f old popped t e ∙ ap (λ v. nodes_of_task f v ++ written f popped) k)) ∙ h
+
+pub join_fewer : (f : ℕ → Plain) (old popped : List Task) (t : Task) → old ≡ popped ++ t ∷ [] → t ≡ Join → load f popped < load f old
+join_fewer f old popped t e k =
+    let z : load f old ≡ 1 + load f popped = load-popped f old popped t e ∙ ap (λ v. load_of_task f v + load f popped) k in
+    omega (arith, z)

@@ -1,11 +1,12 @@
 -- What a step of unification shows.
-use Rattle.std.proofs.Common.{◌≡◌, ℕ, zero, suc, ◌+◌, ◌<◌, ◌≤◌, Bool, true, false, List, [], ◌∷◌, ◌++◌, length, ◌⊎◌, inl, inr, refl, sym, ap, ap₂, subst, ◌∙◌, arith, append_assoc}
+use Rattle.std.proofs.Common.{◌≡◌, ℕ, zero, suc, ◌+◌, ◌<◌, ◌≤◌, Bool, true, false, List, [], ◌∷◌, ◌++◌, length, Option, Some, None, ◌⊎◌, inl, inr, refl, sym, ap, ap₂, subst, ◌∙◌, arith, append_assoc}
 use Rattle.std.specs.Prelude.{◌↔◌}
 use Rattle.type_unify.specs.Types.{Plain, flex, rigid, con, app, bare, Same, Assignment, apply, Equals, Every}
 use Rattle.type_unify.specs.declared.cell.Cell.{Cell}
+use Rattle.type_unify.specs.declared.solve.Wanted.{Wanted}
 use Rattle.type_unify.specs.Cells.{seen}
 use Rattle.type_unify.specs.Steps.{AllEqual, EveryPair, AllWithin, size, weight, Free, Follows, Asks}
-use Rattle.type_unify.specs.Outcomes.{Reduces, Refuses}
+use Rattle.type_unify.specs.Outcomes.{Reduces, Refuses, Step, Advance}
 use Rattle.type_unify.specs.Differences.{PartsOf, BindOf}
 use Rattle.type_unify.proofs.Stacking.{size-positive}
 
@@ -157,3 +158,15 @@ AllEqual-done f m first old h e s = (h.same s).1 (subst (AllEqual s f) (sym e) t
 
 pub first_within : (f : ℕ → Plain) (m : ℕ) (first old popped : List (ℕ × ℕ)) (p : ℕ × ℕ) → Follows f m first old → AllWithin m first → old ≡ popped ++ p ∷ [] → (p.0 < m) × (p.1 < m)
 first_within f m first old popped p h w e = let r = AllWithin-front m popped p (subst (AllWithin m) e (h.within w)) in (r.1, r.2)
+
+pub Step-none : (cs : List Cell) (es old new : List (ℕ × ℕ)) (r : Option Wanted) → Step cs es old new r → r ≡ None → Reduces (seen cs es) (length cs) old new
+Step-none cs es old new r h e = subst (Step cs es old new) e h
+
+pub Step-some : (cs : List Cell) (es old new : List (ℕ × ℕ)) (r : Option Wanted) (w : Wanted) → Step cs es old new r → r ≡ Some w → Asks cs es old new w.id w.to
+Step-some cs es old new r w h e = subst (Step cs es old new) e h
+
+pub Advance-none : (cs : List Cell) (es old new : List (ℕ × ℕ)) (r : Option Wanted) → Advance cs es old new r → r ≡ None → (s : Assignment) → AllEqual s (seen cs es) old
+Advance-none cs es old new r h e = subst (Advance cs es old new) e h
+
+pub Advance-some : (cs : List Cell) (es old new : List (ℕ × ℕ)) (r : Option Wanted) (w : Wanted) → Advance cs es old new r → r ≡ Some w → Asks cs es old new w.id w.to
+Advance-some cs es old new r w h e = subst (Advance cs es old new) e h

@@ -8,3 +8,6 @@ pub mod Differences
 pub mod Stacks
 pub mod Outcomes
 pub mod Spelled
+pub mod Taken
+pub mod Resolving
+pub mod Attempts

@@ -94,8 +94,10 @@ fn advance(
     ensures none { IfErr result (λ e. e ≡ UnifyError.NoUnifier → Refuses (seen cells.now entries.now.entries) stack.old.items) }
 {
     while let Some((one, other)) = stack.pop() {
-        if let Some(wanted) = step(cells, entries, stack, one, other)? {
-            return Ok(Some(wanted));
+        match step(cells, entries, stack, one, other) {
+            Ok(None) => {}
+            Ok(Some(wanted)) => return Ok(Some(wanted)),
+            Err(error) => return Err(error),
         }
     }
     Ok(None)
@@ -127,12 +129,16 @@ pub fn solve(
     ensures none { IfErr result (λ e. e ≡ UnifyError.NoUnifier → NotSolvable (bounds cells.now entries.old.entries) (at (trees cells.now) one) (at (trees cells.now) other)) }
 {
     let mut stack = one_pair(alloc, one, other)?;
-    'bindings: while let Some(wanted) = advance(cells, entries, &mut stack)? {
-        let Wanted { id, to } = wanted;
-        if occurs(alloc, cells, entries, id, to)? {
-            return Err(UnifyError::NoUnifier);
+    'bindings: loop {
+        match advance(cells, entries, &mut stack) {
+            Ok(None) => return Ok(()),
+            Ok(Some(Wanted { id, to })) => {
+                if occurs(alloc, cells, entries, id, to)? {
+                    return Err(UnifyError::NoUnifier);
+                }
+                bind(entries, id, to)?;
+            }
+            Err(error) => return Err(error),
         }
-        bind(entries, id, to)?;
     }
-    Ok(())
 }

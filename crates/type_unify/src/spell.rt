@@ -27,8 +27,8 @@ fn push_parts(tasks: &mut Vec<Task>, fun: usize, arg: usize) -> Result<(), Alloc
     Ok(())
 }
 
-// One more node.
-fn put(out: &mut Vec<Node>, node: Node) -> Result<(), AllocError>
+/// One more node.
+pub fn put(out: &mut Vec<Node>, node: Node) -> Result<(), AllocError>
     ensures { OnOk result (out.new.items ≡ out.old.items ++ node ∷ []) }
 {
     out.push(node)?;

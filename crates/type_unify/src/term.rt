@@ -1,6 +1,7 @@
 //! Types with unknowns, of any depth.
 ghost use Rattle.std.specs.Prelude.{◌≡◌, ◌++◌, ◌∷◌, [], IfOk};
 ghost use Rattle.type_unify.specs.Types.{flex, rigid, con, app};
+ghost use Rattle.type_unify.specs.Written.{Spells, spelled};
 
 use bp_base::{Kind, OrigName};
 use std::alloc::{AllocError, Global};
@@ -130,5 +131,20 @@ impl Term {
         Ok(Term {
             nodes: copied_nodes(alloc, &self.nodes)?,
         })
+    }
+
+    /// The nodes of the type, the parts of an application before it.
+    pub fn nodes(&self) -> &[Node]
+        ensures { Spells result.now self.now }
+    {
+        self.nodes.as_slice()
+    }
+
+    // The type that the nodes spell.
+    pub(crate) fn from_nodes(nodes: Vec<Node>) -> Term
+        requires { Spells nodes.items (spelled nodes.items) }
+        ensures { result ≡ spelled nodes.items }
+    {
+        Term { nodes }
     }
 }
