@@ -5,3 +5,5 @@ pub mod Seeing
 pub mod Stepping
 pub mod Stacking
 pub mod Runs
+pub mod Taking
+pub mod Attempting

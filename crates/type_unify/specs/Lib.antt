@@ -9,5 +9,4 @@ pub mod Stacks
 pub mod Outcomes
 pub mod Spelled
 pub mod Taken
-pub mod Resolving
 pub mod Attempts
