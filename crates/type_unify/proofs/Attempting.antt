@@ -1,11 +1,11 @@
 -- From a table to bindings.
-use Rattle.std.proofs.Common.{◌≡◌, ℕ, List, [], ◌∷◌, ◌++◌, ◌<◌, length, take, refl, sym, ap, ap₂, subst, ◌∙◌, arith}
+use Rattle.std.proofs.Common.{◌≡◌, ℕ, List, [], ◌∷◌, ◌++◌, ◌<◌, ◌+◌, length, take, length-append, refl, sym, ap, ap₂, subst, ◌∙◌, arith}
 use Rattle.std.proofs.Math.Seq.{take-append_seam}
 use Rattle.std.specs.Prelude.{◌↔◌}
 use Rattle.type_unify.specs.Types.{Plain, Assignment, Equals, Solves, Bound, resolved}
 use Rattle.type_unify.specs.Unified.{IsUnified, NotSolvable}
 use Rattle.type_unify.specs.declared.cell.Cell.{Cell}
-use Rattle.type_unify.specs.Cells.{at, trees, bounds, seen, Stands}
+use Rattle.type_unify.specs.Cells.{at, trees, bounds, bounds_after, seen, Stands}
 use Rattle.type_unify.specs.Outcomes.{Grows, Solved}
 use Rattle.type_unify.specs.Taken.{IsLonger, Extends, TakenIn}
 use Rattle.type_unify.specs.Attempts.{Attempted}
@@ -73,3 +73,24 @@ NotSolvable-both first cs es t u a b k h =
     let y = subst (λ v. NotSolvable (bounds cs es) v (at (trees cs) b)) k.left h in
     let z = subst (λ v. NotSolvable (bounds cs es) t v) k.right y in
     subst (λ v. NotSolvable v t u) k.same z
+
+pub TakenIn-is : (old new : List Cell) (t u : Plain) (n : ℕ) → TakenIn old new t n → t ≡ u → TakenIn old new u n
+TakenIn-is old new t u n h e = subst (λ v. TakenIn old new v n) e h
+
+pub Stands-empty : (cs : List Cell) (es : List (ℕ × ℕ)) → cs ≡ [] → es ≡ [] → Stands cs es
+Stands-empty cs es e f = subst (λ v. Stands v es) (sym e) (subst (λ w. Stands [] w) (sym f) Stands-new)
+
+pub bounds-empty : (cs : List Cell) (es : List (ℕ × ℕ)) → cs ≡ [] → es ≡ [] → bounds cs es ≡ []
+bounds-empty cs es e f = ap₂ bounds e f ∙ bounds-new
+
+length-bounds_after : (ts : List Plain) (bs : List Bound) (es : List (ℕ × ℕ)) → length (bounds_after ts bs es) ≡ length bs + length es
+length-bounds_after ts bs [] = omega arith
+length-bounds_after ts bs (e ∷ es) = omega (arith, length-bounds_after ts (bs ++ (record { id = e.0; term = resolved bs (at ts e.1) }) ∷ []) es, length-append bs ((record { id = e.0; term = resolved bs (at ts e.1) }) ∷ []))
+
+pub length-bounds : (cs : List Cell) (es : List (ℕ × ℕ)) → length (bounds cs es) ≡ length es
+unfolding bounds
+length-bounds cs es = omega (arith, length-bounds_after (trees cs) [] es)
+
+-- cut back to what stood
+pub Stands-cut : (old new cut : List Cell) (es more back : List (ℕ × ℕ)) → Stands old es → cut ≡ old → back ≡ es → Stands cut back
+Stands-cut old new cut es more back h e f = subst (λ v. Stands v back) (sym e) (subst (λ w. Stands old w) (sym f) h)

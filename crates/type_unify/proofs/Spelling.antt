@@ -2,7 +2,7 @@
 use Rattle.std.proofs.Common.{◌≡◌, ℕ, List, [], ◌∷◌, ◌++◌, refl, sym, ap, subst, ◌∙◌}
 use Rattle.type_unify.specs.Types.{Plain, app}
 use Rattle.type_unify.specs.Written.{read, read_node, joined, joined_back, spelled, Spells, top, nodes_of}
-use Rattle.type_unify.specs.Codes.{read-append}
+use Rattle.type_unify.specs.Codes.{read-append, Spells-nodes_of}
 use Rattle.type_unify.specs.declared.term.Node.{Node}
 use Rattle.type_unify.specs.declared.term.Node.TheVariants.{App, Swapped}
 
@@ -21,3 +21,10 @@ Spells-app f a all t u e p q = subst (λ ns. Spells ns (app t u)) (sym e) (λ ts
 
 pub Spells-swapped : (f a all : List Node) (t u : Plain) → all ≡ a ++ f ++ Swapped ∷ [] → Spells f t → Spells a u → Spells all (app t u)
 Spells-swapped f a all t u e p q = subst (λ ns. Spells ns (app t u)) (sym e) (λ ts. two a f (Swapped ∷ []) u t q p ts)
+
+-- what was written for a type spells it
+pub Spells-made : (ns : List Node) (t : Plain) → ns ≡ nodes_of t → Spells ns t
+Spells-made ns t e = subst (λ m. Spells m t) (sym e) (Spells-nodes_of t)
+
+pub spelled-made : (ns : List Node) (t : Plain) → ns ≡ nodes_of t → spelled ns ≡ t
+spelled-made ns t e = spelled_is ns t (Spells-made ns t e)

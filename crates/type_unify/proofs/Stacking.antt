@@ -1,6 +1,6 @@
 -- Laws of stacks of numbers and of tasks.
 use Rattle.std.proofs.Common.{◌≡◌, ℕ, zero, suc, ◌+◌, ◌-◌, ◌*◌, ◌<◌, ◌≤◌, Bool, true, false, ◌||◌, List, [], ◌∷◌, ◌++◌, take, refl, sym, ap, ap₂, subst, ◌∙◌, arith, append_assoc, append-nil}
-use Rattle.std.specs.Prelude.{nat_eq, OnOk, Result, Ok, Err}
+use Rattle.std.specs.Prelude.{nat_eq, OnOk, IfErr, Result, Ok, Err}
 use Rattle.type_unify.specs.Types.{Plain, flex, rigid, con, app, occurs_in}
 use Rattle.type_unify.specs.Written.{nodes_of}
 use Rattle.type_unify.specs.Steps.{size}
@@ -198,3 +198,11 @@ pub join_fewer : (f : ℕ → Plain) (old popped : List Task) (t : Task) → old
 join_fewer f old popped t e k =
     let z : load f old ≡ 1 + load f popped = load-popped f old popped t e ∙ ap (λ v. load_of_task f v + load f popped) k in
     omega (arith, z)
+
+pub OnOk-both : {X E P Q R : Type 0} → (r : Result X E) → (P → Q → R) → OnOk r P → OnOk r Q → OnOk r R
+OnOk-both (Ok x) f h k = f h k
+OnOk-both (Err e) f h k = tt
+
+pub IfErr-then : {X E : Type 0} → (P Q : E → Type 0) → (r : Result X E) → ((e : E) → P e → Q e) → IfErr r P → IfErr r Q
+IfErr-then P Q (Ok x) f h = tt
+IfErr-then P Q (Err e) f h = f e h
