@@ -1,8 +1,9 @@
 -- From a table to bindings.
-use Rattle.std.proofs.Common.{◌≡◌, ℕ, List, [], ◌∷◌, ◌++◌, ◌<◌, ◌+◌, length, take, length-append, refl, sym, ap, ap₂, subst, ◌∙◌, arith}
+use Rattle.std.proofs.Common.{◌≡◌, ℕ, zero, suc, Option, append-nil, append_assoc, List, [], ◌∷◌, ◌++◌, ◌<◌, ◌+◌, length, take, length-append, refl, sym, ap, ap₂, subst, ◌∙◌, arith}
 use Rattle.std.proofs.Math.Seq.{take-append_seam}
-use Rattle.std.specs.Prelude.{◌↔◌}
-use Rattle.type_unify.specs.Types.{Plain, Assignment, Equals, Solves, Bound, resolved}
+use Rattle.std.specs.Prelude.{◌↔◌, slice_get}
+use Rattle.std.specs.Option.{option_map}
+use Rattle.type_unify.specs.Types.{Plain, Assignment, Equals, Solves, Bound, ids, resolved}
 use Rattle.type_unify.specs.Unified.{IsUnified, NotSolvable}
 use Rattle.type_unify.specs.declared.cell.Cell.{Cell}
 use Rattle.type_unify.specs.Cells.{at, trees, bounds, bounds_after, seen, Stands}
@@ -94,3 +95,34 @@ length-bounds cs es = omega (arith, length-bounds_after (trees cs) [] es)
 -- cut back to what stood
 pub Stands-cut : (old new cut : List Cell) (es more back : List (ℕ × ℕ)) → Stands old es → cut ≡ old → back ≡ es → Stands cut back
 Stands-cut old new cut es more back h e f = subst (λ v. Stands v back) (sym e) (subst (λ w. Stands old w) (sym f) h)
+
+-- ---- the unknowns that are bound
+
+firsts : List (ℕ × ℕ) → List ℕ
+firsts [] = []
+firsts (e ∷ es) = e.0 ∷ firsts es
+
+ids-push : (bs : List Bound) (b : Bound) → ids (bs ++ b ∷ []) ≡ ids bs ++ b.id ∷ []
+ids-push [] b = refl
+ids-push (c ∷ bs) b = ap (λ r. c.id ∷ r) (ids-push bs b)
+
+ids-bounds_after : (ts : List Plain) (bs : List Bound) (es : List (ℕ × ℕ)) → ids (bounds_after ts bs es) ≡ ids bs ++ firsts es
+unfolding firsts
+ids-bounds_after ts bs [] = sym (append-nil (ids bs))
+ids-bounds_after ts bs (e ∷ es) =
+    let b : Bound = record { id = e.0; term = resolved bs (at ts e.1) } in
+    ids-bounds_after ts (bs ++ b ∷ []) es ∙ ap (λ r. r ++ firsts es) (ids-push bs b) ∙ append_assoc (ids bs) (e.0 ∷ []) (firsts es)
+
+slice_get-firsts : (es : List (ℕ × ℕ)) (i : ℕ) → slice_get (firsts es) i ≡ option_map (λ e. e.0) (slice_get es i)
+unfolding firsts
+slice_get-firsts [] i = refl
+slice_get-firsts (e ∷ es) zero = refl
+slice_get-firsts (e ∷ es) (suc i) = slice_get-firsts es i
+
+ids-bounds : (cs : List Cell) (es : List (ℕ × ℕ)) → ids (bounds cs es) ≡ firsts es
+unfolding bounds
+ids-bounds cs es = ids-bounds_after (trees cs) [] es
+
+pub id_is : (cs : List Cell) (es : List (ℕ × ℕ)) (i : ℕ) (r : Option (ℕ × ℕ)) (bs : List Bound) → r ≡ slice_get es i → bounds cs es ≡ bs → option_map (λ e. e.0) r ≡ slice_get (ids bs) i
+id_is cs es i r bs e v =
+    ap (option_map (λ e. e.0)) e ∙ sym (slice_get-firsts es i) ∙ ap (λ l. slice_get l i) (sym (ids-bounds cs es) ∙ ap ids v)

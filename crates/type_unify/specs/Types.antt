@@ -56,6 +56,11 @@ pub record Bound : Type 0 where
   pub id : ℕ
   pub term : Plain
 
+-- the unknowns that are bound, the oldest first
+abbrev pub ids : List Bound → List ℕ
+ids [] = []
+ids (b ∷ bs) = b.id ∷ ids bs
+
 -- the assignment meets every binding
 abbrev pub Solves : Assignment → List Bound → Type 0
 Solves s [] = Unit {0}

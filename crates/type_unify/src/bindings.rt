@@ -1,6 +1,6 @@
 //! Bindings of unknowns, and unification.
-ghost use Rattle.std.specs.Prelude.{◌≡◌, ◌<◌, [], length, OnOk, OnErr, IfErr, IfOk};
-ghost use Rattle.type_unify.specs.Types.{resolved};
+ghost use Rattle.std.specs.Prelude.{◌≡◌, [], length, slice_get, OnOk, OnErr, IfErr, IfOk};
+ghost use Rattle.type_unify.specs.Types.{ids, resolved};
 ghost use Rattle.type_unify.specs.Unified.{IsUnified, NotSolvable};
 ghost use Rattle.type_unify.specs.Cells.{bounds, Stands};
 ghost use Rattle.type_unify.specs.Outcomes.{Grows};
@@ -54,6 +54,16 @@ impl Bindings {
         ensures { result ≡ length self.now }
     {
         self.entries.len()
+    }
+
+    /// The unknown that was bound as the one of this index, from 0.
+    pub fn id_at(&self, index: usize) -> Option<u64>
+        ensures { result ≡ slice_get (ids self.now) index }
+    {
+        match self.entries.get_index(index) {
+            Some((id, _)) => Some(*id),
+            None => None,
+        }
     }
 
     /// A type with all bindings applied. Where bindings share parts it can be very large. The bindings stay; their table serves as a

@@ -15,3 +15,6 @@ mod walk;
 pub use bindings::{Bindings, unify};
 pub use solve::UnifyError;
 pub use term::{Node, Term};
+
+#[cfg(test)]
+mod tests;
