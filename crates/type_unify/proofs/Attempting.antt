@@ -63,10 +63,10 @@ pub Attempted-solved : (first cs : List Cell) (es new : List (ℕ × ℕ)) (t u 
 Attempted-solved first cs es new t u a b k h = record {
   stands = h.stands;
   unified =
-    let x = IsUnified-solved cs es new a b h in
-    let y = subst (λ v. IsUnified (bounds cs es) (bounds cs new) v (at (trees cs) b)) k.left x in
-    let z = subst (λ v. IsUnified (bounds cs es) (bounds cs new) t v) k.right y in
-    subst (λ v. IsUnified v (bounds cs new) t u) k.same z;
+      let x = IsUnified-solved cs es new a b h in
+      let y = subst (λ v. IsUnified (bounds cs es) (bounds cs new) v (at (trees cs) b)) k.left x in
+      let z = subst (λ v. IsUnified (bounds cs es) (bounds cs new) t v) k.right y in
+      subst (λ v. IsUnified v (bounds cs new) t u) k.same z;
 }
 
 pub NotSolvable-both : (first cs : List Cell) (es : List (ℕ × ℕ)) (t u : Plain) (a b : ℕ) → Both first cs es t u a b → NotSolvable (bounds cs es) (at (trees cs) a) (at (trees cs) b) → NotSolvable (bounds first es) t u

@@ -72,30 +72,27 @@ unbound-push (suc n) bs b h c =
 
 AllEqual-binds : (s : Assignment) (cs : List Cell) (es : List (ℕ × ℕ)) (x n : ℕ) (ps : List (ℕ × ℕ)) → Equals s (flex x) (seen cs es n) → AllEqual s (seen cs es) ps → AllEqual s (seen cs (es ++ (x, n) ∷ [])) ps
 AllEqual-binds s cs es x n [] e h = tt
-AllEqual-binds s cs es x n (p ∷ ps) e h =
-    (
-      ap (λ t. bare (apply s t)) (seen-binds cs es x n p.0) ∙ apply-replaced s x (seen cs es n) (seen cs es p.0) e ∙ h.0
+AllEqual-binds s cs es x n (p ∷ ps) e h = (
+  ap (λ t. bare (apply s t)) (seen-binds cs es x n p.0) ∙ apply-replaced s x (seen cs es n) (seen cs es p.0) e ∙ h.0
       ∙ sym (ap (λ t. bare (apply s t)) (seen-binds cs es x n p.1) ∙ apply-replaced s x (seen cs es n) (seen cs es p.1) e),
-      AllEqual-binds s cs es x n ps e h.1
-    )
+  AllEqual-binds s cs es x n ps e h.1,
+)
 
 AllEqual-unbinds : (s : Assignment) (cs : List Cell) (es : List (ℕ × ℕ)) (x n : ℕ) (ps : List (ℕ × ℕ)) → Equals s (flex x) (seen cs es n) → AllEqual s (seen cs (es ++ (x, n) ∷ [])) ps → AllEqual s (seen cs es) ps
 AllEqual-unbinds s cs es x n [] e h = tt
-AllEqual-unbinds s cs es x n (p ∷ ps) e h =
-    (
-      sym (ap (λ t. bare (apply s t)) (seen-binds cs es x n p.0) ∙ apply-replaced s x (seen cs es n) (seen cs es p.0) e) ∙ h.0
+AllEqual-unbinds s cs es x n (p ∷ ps) e h = (
+  sym (ap (λ t. bare (apply s t)) (seen-binds cs es x n p.0) ∙ apply-replaced s x (seen cs es n) (seen cs es p.0) e) ∙ h.0
       ∙ ap (λ t. bare (apply s t)) (seen-binds cs es x n p.1) ∙ apply-replaced s x (seen cs es n) (seen cs es p.1) e,
-      AllEqual-unbinds s cs es x n ps e h.1
-    )
+  AllEqual-unbinds s cs es x n ps e h.1,
+)
 
 EveryPair-binds : (p : ℕ → Bool) (q : _) (cs : List Cell) (es : List (ℕ × ℕ)) (x n : ℕ) (ps : List (ℕ × ℕ)) → Every p q (seen cs es n) → EveryPair p q (seen cs es) ps → EveryPair p q (seen cs (es ++ (x, n) ∷ [])) ps
 EveryPair-binds p q cs es x n [] u h = tt
-EveryPair-binds p q cs es x n (e ∷ ps) u h =
-    (
-      subst (Every p q) (sym (seen-binds cs es x n e.0)) (Every-replaced p q x (seen cs es n) (seen cs es e.0) u h.0),
-      subst (Every p q) (sym (seen-binds cs es x n e.1)) (Every-replaced p q x (seen cs es n) (seen cs es e.1) u h.1),
-      EveryPair-binds p q cs es x n ps u h.2
-    )
+EveryPair-binds p q cs es x n (e ∷ ps) u h = (
+  subst (Every p q) (sym (seen-binds cs es x n e.0)) (Every-replaced p q x (seen cs es n) (seen cs es e.0) u h.0),
+  subst (Every p q) (sym (seen-binds cs es x n e.1)) (Every-replaced p q x (seen cs es n) (seen cs es e.1) u h.1),
+  EveryPair-binds p q cs es x n ps u h.2,
+)
 
 -- ---- between two bindings
 
@@ -148,18 +145,18 @@ bound cs first es stack rest a b x n r k o =
       within = k.within r.within;
       keeps = λ s h. r.keeps s (Solves-front s (bounds cs es) (last ∷ []) (subst (Solves s) is h));
       pending = λ s h e.
-        let h' = subst (Solves s) is h in
-        let old = Solves-front s (bounds cs es) (last ∷ []) h' in
-        let eq = Solves-last s (bounds cs es) last h' in
-        r.pending s old ((k.same s).1 (eq, AllEqual-unbinds s cs es x n rest eq e));
+          let h' = subst (Solves s) is h in
+          let old = Solves-front s (bounds cs es) (last ∷ []) h' in
+          let eq = Solves-last s (bounds cs es) last h' in
+          r.pending s old ((k.same s).1 (eq, AllEqual-unbinds s cs es x n rest eq e));
       all = λ s h e.
-        let old = r.all s h e in
-        let new = (k.same s).0 old.1 in
-        (subst (Solves s) (sym is) (Solves-push s (bounds cs es) last old.0 new.0), AllEqual-binds s cs es x n rest new.0 new.1);
+          let old = r.all s h e in
+          let new = (k.same s).0 old.1 in
+          (subst (Solves s) (sym is) (Solves-push s (bounds cs es) last old.0 new.0), AllEqual-binds s cs es x n rest new.0 new.1);
       closed = λ p q h y z.
-        let old = r.closed p q h y z in
-        let new = k.closed p q old.1 in
-        (subst (EveryBound p q) (sym is) (EveryBound-push p q (bounds cs es) last old.0 new.0 new.1), EveryPair-binds p q cs es x n rest new.1 new.2);
+          let old = r.closed p q h y z in
+          let new = k.closed p q old.1 in
+          (subst (EveryBound p q) (sym is) (EveryBound-push p q (bounds cs es) last old.0 new.0 new.1), EveryPair-binds p q cs es x n rest new.1 new.2);
     }
 
 pub Reached-bind : (cs : List Cell) (first es stack rest next : List (ℕ × ℕ)) (a b x n : ℕ) (o : Bool) → Reached cs first es stack a b → Asks cs es stack rest x n → o ≡ occurs_in x (seen cs es n) → o ≡ false → next ≡ es ++ (x, n) ∷ [] → Reached cs first next rest a b

@@ -65,13 +65,13 @@ Unseen-app f m x i g a old new e s lg la =
     let two : new ≡ (old ++ a ∷ []) ++ g ∷ [] = e ∙ two_pushes old a g in
     record {
       same =
-        ap (occurs_among x f) two ∙ occurs_among-push x f (old ++ a ∷ []) g ∙ ap (λ b. occurs_in x (f g) || b) (occurs_among-push x f old a)
-        ∙ apart (occurs_in x (f g)) (occurs_in x (f a)) (occurs_among x f old)
-        ∙ sym (ap (λ t. occurs_in x t || occurs_among x f old) s);
+          ap (occurs_among x f) two ∙ occurs_among-push x f (old ++ a ∷ []) g ∙ ap (λ b. occurs_in x (f g) || b) (occurs_among-push x f old a)
+          ∙ apart (occurs_in x (f g)) (occurs_in x (f a)) (occurs_among x f old)
+          ∙ sym (ap (λ t. occurs_in x t || occurs_among x f old) s);
       fewer =
-        let z = ap (sizes f) two in
-        let y = ap size s in
-        omega (arith, z, y, sizes-push f (old ++ a ∷ []) g, sizes-push f old a);
+          let z = ap (sizes f) two in
+          let y = ap size s in
+          omega (arith, z, y, sizes-push f (old ++ a ∷ []) g, sizes-push f old a);
       within = λ h. subst (Below m) (sym two) (Below-push m (old ++ a ∷ []) g (Below-push m old a h la) lg);
     }
   where
@@ -149,9 +149,9 @@ Performs-app f m i g a old new before after e s t lg la =
     record {
       same = ap₂ (λ x y. x ++ y) s left ∙ sym right;
       fewer =
-        let z = ap (load f) three in
-        let y = ap size t in
-        omega (arith, z, y, load-push f ((old ++ Join ∷ []) ++ Visit a ∷ []) (Visit g), load-push f (old ++ Join ∷ []) (Visit a), load-push f old Join);
+          let z = ap (load f) three in
+          let y = ap size t in
+          omega (arith, z, y, load-push f ((old ++ Join ∷ []) ++ Visit a ∷ []) (Visit g), load-push f (old ++ Join ∷ []) (Visit a), load-push f old Join);
       within = λ h. subst (TasksBelow m) (sym three) (TasksBelow-visit m ((old ++ Join ∷ []) ++ Visit a ∷ []) g (TasksBelow-visit m (old ++ Join ∷ []) a (TasksBelow-join m old h) la) lg);
     }
 

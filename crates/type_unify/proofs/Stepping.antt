@@ -72,8 +72,8 @@ Reduces-parts cs es old new a b g h e w =
     let two : new ≡ (old ++ h ∷ []) ++ g ∷ [] = e ∙ two_pushes old h g in
     record {
       follows = record {
-        same = λ s.
-          ((λ k.
+        same = λ s. (
+          (λ k.
               let r = AllEqual-front s f old (a, b) k in
               let z : app (bare (apply s (f g.0))) (bare (apply s (f h.0))) ≡ app (bare (apply s (f g.1))) (bare (apply s (f h.1))) =
               ap (λ t. bare (apply s t)) (sym w.left) ∙ r.1 ∙ ap (λ t. bare (apply s t)) w.right in
@@ -82,20 +82,21 @@ Reduces-parts cs es old new a b g h e w =
           (λ k.
               let r = AllEqual-front s f (old ++ h ∷ []) g (subst (AllEqual s f) two k) in
               let t = AllEqual-front s f old h r.0 in
-              AllEqual-push s f old (a, b) t.0 (ap (λ u. bare (apply s u)) w.left ∙ ap₂ app r.1 t.1 ∙ ap (λ u. bare (apply s u)) (sym w.right))));
+              AllEqual-push s f old (a, b) t.0 (ap (λ u. bare (apply s u)) w.left ∙ ap₂ app r.1 t.1 ∙ ap (λ u. bare (apply s u)) (sym w.right))),
+        );
         closed = λ p q k.
-          let r = EveryPair-front p q f old (a, b) k in
-          let x = subst (Every p q) w.left r.1 in
-          let y = subst (Every p q) w.right r.2 in
-          subst (EveryPair p q f) (sym two) (EveryPair-push p q f (old ++ h ∷ []) g (EveryPair-push p q f old h r.0 x.1 y.1) x.0 y.0);
+            let r = EveryPair-front p q f old (a, b) k in
+            let x = subst (Every p q) w.left r.1 in
+            let y = subst (Every p q) w.right r.2 in
+            subst (EveryPair p q f) (sym two) (EveryPair-push p q f (old ++ h ∷ []) g (EveryPair-push p q f old h r.0 x.1 y.1) x.0 y.0);
         within = λ k.
-          subst (AllWithin (length cs)) (sym two) (AllWithin-push (length cs) (old ++ h ∷ []) g (AllWithin-push (length cs) old h (AllWithin-front (length cs) old (a, b) k).0 w.left_arg w.right_arg) w.left_fun w.right_fun);
+            subst (AllWithin (length cs)) (sym two) (AllWithin-push (length cs) (old ++ h ∷ []) g (AllWithin-push (length cs) old h (AllWithin-front (length cs) old (a, b) k).0 w.left_arg w.right_arg) w.left_fun w.right_fun);
       };
       fewer =
-        let z = ap (weight f) two in
-        let x = ap size w.left in
-        let y = ap size w.right in
-        omega (arith, z, x, y, weight-push f old (a, b), weight-push f (old ++ h ∷ []) g, weight-push f old h);
+          let z = ap (weight f) two in
+          let x = ap size w.left in
+          let y = ap size w.right in
+          omega (arith, z, x, y, weight-push f old (a, b), weight-push f (old ++ h ∷ []) g, weight-push f old h);
     }
 
 -- one is a free unknown
@@ -104,22 +105,25 @@ Asks-bind cs es old new a b x n e w =
     let f = seen cs es in
     record {
       free = w.free;
-      same = λ s.
-        ((λ k. let r = AllEqual-front s f old (a, b) k in (there s w.ends r.1, subst (AllEqual s f) (sym e) r.0)),
-        (λ k. AllEqual-push s f old (a, b) (subst (AllEqual s f) e k.1) (back s w.ends k.0)));
+      same = λ s. (
+        (λ k. let r = AllEqual-front s f old (a, b) k in (there s w.ends r.1, subst (AllEqual s f) (sym e) r.0)),
+        (λ k. AllEqual-push s f old (a, b) (subst (AllEqual s f) e k.1) (back s w.ends k.0)),
+      );
       closed = λ p q k.
-        let r = EveryPair-front p q f old (a, b) k in
-        let t = every p q w.ends r.1 r.2 in
-        (t.0, t.1, subst (EveryPair p q f) (sym e) r.0);
+          let r = EveryPair-front p q f old (a, b) k in
+          let t = every p q w.ends r.1 r.2 in
+          (t.0, t.1, subst (EveryPair p q f) (sym e) r.0);
       within = λ k. subst (AllWithin (length cs)) (sym e) (AllWithin-front (length cs) old (a, b) k).0;
     }
   where
     there : (s : Assignment) → (seen cs es a ≡ flex x) × (seen cs es b ≡ seen cs es n) ⊎ (seen cs es b ≡ flex x) × (seen cs es a ≡ seen cs es n) → Equals s (seen cs es a) (seen cs es b) → Equals s (flex x) (seen cs es n)
     there s (inl p) h = ap (λ t. bare (apply s t)) (sym p.0) ∙ h ∙ ap (λ t. bare (apply s t)) p.1
     there s (inr p) h = ap (λ t. bare (apply s t)) (sym p.0) ∙ sym h ∙ ap (λ t. bare (apply s t)) p.1
+
     back : (s : Assignment) → (seen cs es a ≡ flex x) × (seen cs es b ≡ seen cs es n) ⊎ (seen cs es b ≡ flex x) × (seen cs es a ≡ seen cs es n) → Equals s (flex x) (seen cs es n) → Equals s (seen cs es a) (seen cs es b)
     back s (inl p) h = ap (λ t. bare (apply s t)) p.0 ∙ h ∙ ap (λ t. bare (apply s t)) (sym p.1)
     back s (inr p) h = ap (λ t. bare (apply s t)) p.1 ∙ sym h ∙ ap (λ t. bare (apply s t)) (sym p.0)
+
     every : (p : ℕ → Bool) (q : _) → (seen cs es a ≡ flex x) × (seen cs es b ≡ seen cs es n) ⊎ (seen cs es b ≡ flex x) × (seen cs es a ≡ seen cs es n) → Every p q (seen cs es a) → Every p q (seen cs es b) → (p x ≡ true) × Every p q (seen cs es n)
     every p q (inl e) h k = (subst (Every p q) e.0 h, subst (Every p q) e.1 k)
     every p q (inr e) h k = (subst (Every p q) e.0 k, subst (Every p q) e.1 h)

@@ -174,10 +174,10 @@ Holds-cell cs es d x n i h = record {
   within = omega (arith, h.within, length-append cs (d ∷ []));
   same = ap (λ bs. resolved bs (flex x)) (bounds-cell cs es d i) ∙ h.same ∙ sym (seen-cell cs es d n i h.within);
   nearer =
-    let far = hops-cell cs es d (flex x) i in
-    let near : hops (cs ++ d ∷ []) es (at (trees (cs ++ d ∷ [])) n) ≡ hops cs es (at (trees cs) n) =
-    hops-cell cs es d _ i ∙ ap (hops cs es) (at-push cs d n h.within) in
-    omega (arith, h.nearer, far, near);
+      let far = hops-cell cs es d (flex x) i in
+      let near : hops (cs ++ d ∷ []) es (at (trees (cs ++ d ∷ [])) n) ≡ hops cs es (at (trees cs) n) =
+      hops-cell cs es d _ i ∙ ap (hops cs es) (at-push cs d n h.within) in
+      omega (arith, h.nearer, far, near);
 }
 
 -- one more node changes no binding and no type of an older number
@@ -308,6 +308,7 @@ Stands-bind cs es x n h b = record {
     holds_new y m (inr p) None f e =
         let e' : or_last None false n ≡ Some m = subst (λ v. or_last None v n ≡ Some m) p e in
         absurd (cc)
+
     free_new : (y : ℕ) → (y ≡ x) × (nat_eq y x ≡ true) ⊎ (nat_eq y x ≡ false) → (r : Option ℕ) → lookup (nat_eq y) es ≡ r → or_last r (nat_eq y x) n ≡ None → hops cs (es ++ (x, n) ∷ []) (flex y) ≡ 0
     free_new y c (Some k) f e = absurd (cc)
     free_new y (inl p) None f e =

@@ -60,9 +60,9 @@ Took-cell node old new before after c e k p r =
       extends = x;
       below = λ h. subst (Below (length new)) (sym k) (Below-push (length new) before (length old) (Below-longer (length old) (length new) before (omega (arith, l)) h) (omega (arith, l)));
       types = λ h.
-        ap (types_of (at (trees new))) k ∙ types_of-push (at (trees new)) before (length old)
-        ∙ ap₂ (λ t ts. t ∷ ts) (ap (λ d. at (trees d) (length old)) e ∙ at-last old c) (types_of-same (at (trees old)) (at (trees new)) (length old) before x.keeps h)
-        ∙ sym (r (types_of (at (trees old)) before));
+          ap (types_of (at (trees new))) k ∙ types_of-push (at (trees new)) before (length old)
+          ∙ ap₂ (λ t ts. t ∷ ts) (ap (λ d. at (trees d) (length old)) e ∙ at-last old c) (types_of-same (at (trees old)) (at (trees new)) (length old) before x.keeps h)
+          ∙ sym (r (types_of (at (trees old)) before));
     }
 
 -- a node that finds too few types leaves the stack
@@ -71,8 +71,8 @@ Took-nothing b old before after e k = record {
   extends = Extends-refl old;
   below = λ h. subst (Below (length old)) (sym k) h;
   types = λ h.
-    let z : types_of (at (trees old)) before ≡ [] = ap (types_of (at (trees old))) e in
-    ap (types_of (at (trees old))) k ∙ z ∙ sym (ap (read_node (joining b)) z ∙ none b);
+      let z : types_of (at (trees old)) before ≡ [] = ap (types_of (at (trees old))) e in
+      ap (types_of (at (trees old))) k ∙ z ∙ sym (ap (read_node (joining b)) z ∙ none b);
 }
   where
     none : (b : Bool) → read_node (joining b) [] ≡ []
@@ -86,8 +86,8 @@ Took-one b old before popped after i e n k =
       extends = Extends-refl old;
       below = λ h. subst (Below (length old)) (e ∙ sym k) h;
       types = λ h.
-        let z : types_of (at (trees old)) before ≡ at (trees old) i ∷ [] = ap (types_of (at (trees old))) one in
-        ap (types_of (at (trees old))) (k ∙ sym e) ∙ z ∙ sym (ap (read_node (joining b)) z ∙ single b (at (trees old) i));
+          let z : types_of (at (trees old)) before ≡ at (trees old) i ∷ [] = ap (types_of (at (trees old))) one in
+          ap (types_of (at (trees old))) (k ∙ sym e) ∙ z ∙ sym (ap (read_node (joining b)) z ∙ single b (at (trees old) i));
     }
   where
     single : (b : Bool) (t : Plain) → read_node (joining b) (t ∷ []) ≡ t ∷ []
@@ -118,9 +118,9 @@ Took-two b old new before popped rest after top below c h e f k g a =
       extends = x;
       below = λ _. subst (Below (length new)) (sym a) (Below-push (length new) rest (length old) (Below-longer (length old) (length new) rest (omega (arith, l)) q.0) (omega (arith, l)));
       types = λ _.
-        ap (types_of (at (trees new))) a ∙ types_of-push (at (trees new)) rest (length old)
-        ∙ ap₂ (λ t ts. t ∷ ts) (ap (λ d. at (trees d) (length old)) g ∙ at-last old c) (types_of-same (at us) (at (trees new)) (length old) rest x.keeps q.0)
-        ∙ sym (ap (read_node (joining b)) types ∙ two_made b us c top below (types_of (at us) rest) k);
+          ap (types_of (at (trees new))) a ∙ types_of-push (at (trees new)) rest (length old)
+          ∙ ap₂ (λ t ts. t ∷ ts) (ap (λ d. at (trees d) (length old)) g ∙ at-last old c) (types_of-same (at us) (at (trees new)) (length old) rest x.keeps q.0)
+          ∙ sym (ap (read_node (joining b)) types ∙ two_made b us c top below (types_of (at us) rest) k);
     }
 
 -- ---- many nodes

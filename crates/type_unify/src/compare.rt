@@ -56,7 +56,12 @@ fn differ(one: &Cell, other: &Cell) -> Difference
 }
 
 /// What the types of two numbers ask for. It takes no memory.
-pub fn compare(cells: &[Cell], entries: &IndexMap<u64, usize>, one: usize, other: usize) -> Difference
+pub fn compare(
+    cells: &[Cell],
+    entries: &IndexMap<u64, usize>,
+    one: usize,
+    other: usize,
+) -> Difference
     requires stands { Stands cells.now entries.now.entries }
     requires first { one < length cells.now }
     requires second { other < length cells.now }

@@ -38,11 +38,7 @@ fn application(swapped: bool, below: usize, top: usize) -> Cell
 }
 
 // The two types on top of the stack become their application; a shorter stack stays.
-fn join(
-    cells: &mut Vec<Cell>,
-    stack: &mut Vec<usize>,
-    swapped: bool,
-) -> Result<(), AllocError>
+fn join(cells: &mut Vec<Cell>, stack: &mut Vec<usize>, swapped: bool) -> Result<(), AllocError>
     requires { Below (length cells.old.items) stack.old.items }
     ensures ok { OnOk result (Took (joining swapped) cells.old.items cells.new.items stack.old.items stack.new.items) }
     ensures longer { IsLonger cells.old.items cells.new.items }

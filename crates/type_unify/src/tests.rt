@@ -103,7 +103,14 @@ fn a_chain(rt: HostRuntime) -> Result<(), Fail> {
     assert_eq!(rt; bindings.len(), 10_000);
     let first = bindings.resolve(alloc, &Term::flex(alloc, 0)?)?;
     assert_eq!(rt; first.nodes().len(), 20_001);
-    assert!(rt; refused(unify(alloc, &mut bindings, &Term::flex(alloc, 10_000)?, &Term::flex(alloc, 0)?)));
+    assert!(rt;
+        refused(unify(
+            alloc,
+            &mut bindings,
+            &Term::flex(alloc, 10_000)?,
+            &Term::flex(alloc, 0)?
+        ))
+    );
     assert_eq!(rt; bindings.len(), 10_000);
     Ok(())
 }
