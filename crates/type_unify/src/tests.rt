@@ -30,7 +30,7 @@ fn list_of(alloc: Global, part: Term) -> Result<Term, AllocError> {
     Term::app(con(alloc, b"[]")?, part)
 }
 
-/// The type applied to by the same rigid variable again and again, `depth` times.
+/// A rigid variable applied to a rigid variable applied to .. the given type, `depth` times.
 fn deep(alloc: Global, depth: usize, end: Term) -> Result<Term, AllocError> {
     let mut all = end;
     for _ in 0..depth {
@@ -81,7 +81,7 @@ fn leaves(rt: HostRuntime) -> Result<(), Fail> {
     Ok(())
 }
 
-// Each unknown is a list of the next, bound from the last one on, so that each new binding leads through all others.
+// Each unknown is a list of the next.
 fn bind_chain(
     rt: &impl Abort,
     alloc: Global,
