@@ -1,0 +1,9 @@
+pub mod Solving
+pub mod Spelling
+pub mod Tables
+pub mod Seeing
+pub mod Stepping
+pub mod Stacking
+pub mod Runs
+pub mod Taking
+pub mod Attempting

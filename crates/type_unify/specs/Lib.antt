@@ -1,0 +1,12 @@
+pub mod Types
+pub mod Unified
+pub mod Written
+pub mod Codes
+pub mod Cells
+pub mod Steps
+pub mod Differences
+pub mod Stacks
+pub mod Outcomes
+pub mod Spelled
+pub mod Taken
+pub mod Attempts
