@@ -1,0 +1,3 @@
+pub mod Unifying
+pub mod Agreement
+pub mod Closing

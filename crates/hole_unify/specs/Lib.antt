@@ -1,0 +1,4 @@
+pub mod Unifiers
+pub mod Classes
+pub mod Causes
+pub mod Laws
