@@ -4,6 +4,9 @@
 
 mod equation;
 mod laws;
+mod table;
+mod close;
+mod reach;
 
 pub use equation::{Equation, Equations, Head, IdentUnifyError};
 pub use laws::{answers_are_one, clash_has_no_unifier, cycle_has_no_unifier};
