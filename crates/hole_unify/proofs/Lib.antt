@@ -2,5 +2,9 @@ pub mod Unifying
 pub mod Agreement
 pub mod Closing
 pub mod Terms
+pub mod Tables
 pub mod Steps
 pub mod Opening
+pub mod Gaps
+pub mod Closings
+pub mod Reaching

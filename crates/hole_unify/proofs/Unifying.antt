@@ -95,7 +95,7 @@ clash_has_no_unifier es one other h u = by h.class
 -- ---- a unifier leaves no cycle
 
 abbrev mutual
-  weight : Ident → ℕ
+  pub weight : Ident → ℕ
   weight (Hole n) = 0
   weight (Module' s (more_of-Unit u end_of-Unit) m) = suc (weight_unit u)
 
@@ -141,3 +141,11 @@ Reaches-lighter es g u a b (Through x y z r s) = let p = Reaches-lighter es g u 
 
 pub cycle_has_no_unifier : (es : List Equation) (n : List ℕ) → Reaches es (Hole n) (Hole n) → HasUnifier es → ⊥
 cycle_has_no_unifier es n r u = let h = Reaches-lighter es u.0 u.1 (Hole n) (Hole n) r in omega arith
+
+-- a fill is lighter than its module
+pub fill-lighter : (u : OfUnit) (m n : List ℕ) (i : Ident) → found n (out-Unit u).fills ≡ Some i → weight i < weight (Module u m)
+fill-lighter u m n i e =
+    let below = found-lighter n (out-Unit u).fills i e in
+    let sum = weight_unit-out u in
+    let top = weight-Module u m in
+    omega (arith, below, sum, top)

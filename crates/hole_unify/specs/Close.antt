@@ -9,11 +9,13 @@ use Rattle.bp_base.specs.declared.ident.Fill.{Fill}
 use Rattle.bp_base.specs.declared.ident.Ident.TheBlock.{Row_of-Unit, end_of-Unit, more_of-Unit}
 use Rattle.bp_base.specs.Texts.{Text}
 use Rattle.unit_identity.specs.Fill.{found}
-use Rattle.hole_unify.specs.declared.equation.Head.{Head}
 use Rattle.hole_unify.specs.declared.table.Node.{Node}
 use Rattle.hole_unify.specs.declared.close.Open.{Open}
 use Rattle.hole_unify.specs.declared.close.Open.TheVariants.{Heads, Gap}
-use Rattle.hole_unify.specs.Classes.{head_of}
+use Rattle.hole_unify.specs.declared.equation.Equation.{Equation}
+use Rattle.hole_unify.specs.declared.equation.Head.{Head}
+use Rattle.hole_unify.specs.Classes.{head_of, HasHeads}
+use Rattle.hole_unify.specs.Tables.{IsJoined}
 use Rattle.hole_unify.specs.Table.{class_at, moved}
 
 -- two classes that are to be one, the greater number first
@@ -56,21 +58,17 @@ open_in nodes (x ∷ rest) = option_or (open_with nodes x nodes) (open_in nodes 
 abbrev pub first_open : List Node → Option Open
 first_open nodes = open_in nodes nodes
 
--- one table comes from another one by closing gaps
-pub data Later : List Node → List Node → Type 0 where
-  Now : (nodes : List Node) → Later nodes nodes
-  Closed : (old nodes : List Node) (from to : ℕ) → Later old nodes → first_open nodes ≡ Some (Gap from to) → Later old (moved from to nodes)
-
 abbrev pub stepped : Option Open → List Node → List Node
 stepped None nodes = nodes
 stepped (Some (Heads one other)) nodes = nodes
 stepped (Some (Gap from to)) nodes = moved from to nodes
 
-abbrev pub MeetsHeads : List Node → Option (Head × Head) → Type 0
-MeetsHeads nodes None = first_open nodes ≡ None
-MeetsHeads nodes (Some heads) = first_open nodes ≡ Some (Heads heads.0 heads.1)
+-- a closed table of the equations
+pub record IsSettled (es : List Equation) (nodes : List Node) : Type 0 where
+  pub joined : IsJoined es nodes
+  pub closed : first_open nodes ≡ None
 
--- closing ends at a table that is closed, or that has these two heads in one class
-pub record EndsAt (old new : List Node) (heads : Option (Head × Head)) : Type 0 where
-  pub later : Later old new
-  pub meets : MeetsHeads new heads
+-- closing ends at a closed table, or at two different heads of one class
+abbrev pub Ends : List Equation → List Node → Option (Head × Head) → Type 0
+Ends es nodes None = IsSettled es nodes
+Ends es nodes (Some heads) = HasHeads es heads.0 heads.1

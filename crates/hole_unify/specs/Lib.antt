@@ -3,6 +3,7 @@ pub mod Classes
 pub mod Causes
 pub mod Laws
 pub mod Table
+pub mod Tables
 pub mod Close
 pub mod Reach
-pub mod Tables
+pub mod Build

@@ -1,5 +1,10 @@
 -- Which classes a class reaches through fills.
-use Rattle.std.specs.Prelude.{◌≡◌, ℕ, Bool, true, false, ◌&&◌, ◌||◌, not, List, [], ◌∷◌, ◌++◌, Option, Some, None, if◌then◌else◌, nat_eq}
+use Rattle.std.specs.Prelude.{◌≡◌, ℕ, Bool, true, false, ◌&&◌, ◌||◌, not, List, [], ◌∷◌, ◌++◌, Option, Some, None, if◌then◌else◌, nat_eq, map}
+use Rattle.std.specs.Ordering.{nat_cmp}
+use Rattle.std.specs.Cmp.Lexicographic.{slice_cmp}
+use Rattle.std.specs.declared.cmp.Ordering.{Ordering}
+use Rattle.std.specs.declared.cmp.Ordering.TheVariants.{Less, Equal, Greater}
+use Rattle.bp_base.specs.Texts.{Text}
 use Rattle.bp_base.specs.declared.ident.Ident.{Ident}
 use Rattle.bp_base.specs.declared.ident.Ident.TheVariants.{Hole, Module'}
 use Rattle.bp_base.specs.declared.ident.Unit.{Unit as OfUnit, out-Unit}
@@ -51,3 +56,30 @@ reached k all done (e ∷ turns) = reached k all (with_one done (next_reached k 
 
 abbrev pub on_cycle : ℕ → List Edge → Bool
 on_cycle k all = holds k (reached k all [] all)
+
+-- the lesser of two names, where there are two
+abbrev pub before : Ordering → Text → Text → Text
+before Less new old = new
+before Equal new old = old
+before Greater new old = old
+
+abbrev pub lesser : Option Text → Option Text → Option Text
+lesser best None = best
+lesser None (Some new) = Some new
+lesser (Some old) (Some new) = Some (before (slice_cmp nat_cmp new old) new old)
+
+-- the least of the names
+abbrev pub least_from : Option Text → List (Option Text) → Option Text
+least_from best [] = best
+least_from best (o ∷ os) = least_from (lesser best o) os
+
+-- the hole of the node, where its class reaches itself
+abbrev pub term_cycle : List Edge → ℕ → Ident → Option Text
+term_cycle all k (Hole n) = if on_cycle k all then Some n else None
+term_cycle all k (Module' s r m) = None
+
+abbrev pub hole_cycle : List Edge → Node → Option Text
+hole_cycle all x = term_cycle all x.class x.ident
+
+abbrev pub least_cycle : List Edge → List Node → Option Text
+least_cycle all nodes = least_from None (map (hole_cycle all) nodes)

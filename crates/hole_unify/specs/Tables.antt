@@ -21,3 +21,8 @@ pub record IsTable (es : List Equation) (nodes : List Node) : Type 0 where
   pub only : (x : Node) → Among x nodes → Among x.ident (terms_in es)
   pub one : (t : Ident) (k l : ℕ) → In nodes t k → In nodes t l → k ≡ l
   pub sound : (x y : Node) → Among x nodes → Among y nodes → x.class ≡ y.class → Same es x.ident y.ident
+
+-- each equation's sides are of one class
+pub record IsJoined (es : List Equation) (nodes : List Node) : Type 0 where
+  pub table : IsTable es nodes
+  pub stated : (e : Equation) → Among e es → One nodes e.left e.right

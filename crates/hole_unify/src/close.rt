@@ -1,11 +1,12 @@
 //! Closing classes: where two terms of one class have one head, their fills at each hole are put into one class.
-ghost use Rattle.std.specs.Prelude.{◌≡◌, IfOk};
+ghost use Rattle.std.specs.Prelude.{◌≡◌, [], IfOk};
 ghost use Rattle.unit_identity.specs.Fill.{found};
 ghost use Rattle.hole_unify.specs.Classes.{head_of};
-ghost use Rattle.hole_unify.specs.Close.{class_gap, fill_gap, fills_gap, units_open, terms_open, pair_open, open_with, open_in, first_open, stepped, EndsAt};
+ghost use Rattle.hole_unify.specs.Close.{class_gap, fill_gap, fills_gap, units_open, terms_open, pair_open, open_with, open_in, first_open, stepped, Ends};
+ghost use Rattle.hole_unify.specs.Table.{numbered, terms_in};
 
-use crate::equation::Head;
-use crate::table::{Node, class_of, join};
+use crate::equation::{Equation, Head};
+use crate::table::{Node, class_of, join, join_equations};
 use bp_base::{Fill, Ident, Name, Unit};
 use std::alloc::{AllocError, Global};
 use unit_identity::filler;
@@ -182,11 +183,18 @@ fn close_step(alloc: Global, nodes: &mut [Node]) -> Result<Option<Open>, AllocEr
     Ok(open)
 }
 
-/// Closes the classes, up to two different heads of one class, which are the answer.
-pub fn close(alloc: Global, nodes: &mut [Node]) -> Result<Option<(Head, Head)>, AllocError>
-    ensures { IfOk result (λ r. EndsAt nodes.old nodes.new r) }
+/// Makes one class of the sides of each equation, and closes the classes, up to two different heads of one class, which are the
+/// answer. The table has the terms of the equations.
+pub fn close(
+    alloc: Global,
+    equations: &[Equation],
+    nodes: &mut [Node],
+) -> Result<Option<(Head, Head)>, AllocError>
+    requires { nodes.old ≡ numbered (terms_in equations.now) [] }
+    ensures { IfOk result (λ r. Ends equations.now nodes.new r) }
 {
-    loop {
+    join_equations(nodes, equations);
+    'steps: loop {
         match close_step(alloc, nodes)? {
             Some(Open::Heads { one, other }) => return Ok(Some((one, other))),
             Some(Open::Gap { .. }) => {}
