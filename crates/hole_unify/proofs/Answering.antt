@@ -30,7 +30,8 @@ use Rattle.hole_unify.specs.Build.{built_at, is_less, place, inserted, put, hole
 use Rattle.hole_unify.proofs.Terms.{Module-is, Hole-not-Module, same_terms, terms_same}
 use Rattle.hole_unify.proofs.Tables.{Some-same, class_at-found}
 use Rattle.hole_unify.proofs.Gaps.{fill-class, one_head, one_fill}
-use Rattle.hole_unify.proofs.Building.{Builds, NoFills, MoreFills, IsHole, IsMade, IsEntry, made, Stands, some-or-none, not-both, listed-unit, found-among}
+use Rattle.hole_unify.specs.Stands.{Builds, NoFills, MoreFills, made, IsHole, IsMade, IsEntry, Stands}
+use Rattle.hole_unify.proofs.Building.{some-or-none, not-both, listed-unit, found-among}
 use Rattle.hole_unify.proofs.Unifying.{weight, fill-lighter}
 use denote.Hole.Carrier.{hidden}
 
@@ -237,7 +238,7 @@ module _ (nodes : List Node) (built : List Entry) (one : (t : Ident) (k l : ℕ)
             let k = hole-step n x.class t fs p b ok in
             subst (λ z. Answers (x ∷ rest) fs (answer built rest (term_put z (built_at x.class built) fs))) (sym is)
             (subst (λ o. Answers (x ∷ rest) fs (answer built rest (hole_put n o fs))) (sym b)
-              (add x rest fs (hole_put n (Some t) fs) (answer built rest (hole_put n (Some t) fs)) n t is p b k (go (hole_put n (Some t) fs) k.fills)))
+            (add x rest fs (hole_put n (Some t) fs) (answer built rest (hole_put n (Some t) fs)) n t is p b k (go (hole_put n (Some t) fs) k.fills)))
         by (Module' s r m) is (t, b) go =
             subst (λ z. Answers (x ∷ rest) fs (answer built rest (term_put z (built_at x.class built) fs))) (sym is)
             (skip x rest fs (answer built rest fs) (λ n e. not-hole n (sym is ∙ e)) (go fs ok))
@@ -300,12 +301,12 @@ module _ (es : List Equation) (lawful : IsLawful es) (nodes : List Node) (s : Is
         let there = unit-listed v n k q in
         let heads = one_head nodes s.closed u v m n k p q in
         fit (out-Unit u).fills (out-Unit v).fills (lawful.same_holes u v here there heads.0) (λ x y a b e.
-            let left = found-among (out-Unit u).fills x (lawful.rising u here) a in
-            let right = found-among (out-Unit v).fills y (lawful.rising v there) b in
-            let first = fill-class es nodes table u m x.hole k x.ident p left in
-            let second = fill-class es nodes table v n y.hole k y.ident q right in
-            let same = one_fill nodes s.closed u v m n x.hole k first.0 second.0 x.ident y.ident p q left (ap (λ h. found h (out-Unit v).fills) e ∙ right) first.1 second.1 in
-            (first.0, first.1, second.1 ∙ ap Some (sym same)))
+        let left = found-among (out-Unit u).fills x (lawful.rising u here) a in
+        let right = found-among (out-Unit v).fills y (lawful.rising v there) b in
+        let first = fill-class es nodes table u m x.hole k x.ident p left in
+        let second = fill-class es nodes table v n y.hole k y.ident q right in
+        let same = one_fill nodes s.closed u v m n x.hole k first.0 second.0 x.ident y.ident p q left (ap (λ h. found h (out-Unit v).fills) e ∙ right) first.1 second.1 in
+        (first.0, first.1, second.1 ∙ ap Some (sym same)))
 
     -- what is built is what the terms become
     fitted : (us vs l : List Fill) → Fit us vs → Builds nodes built vs l → ((x : Fill) → Among x us → (k : ℕ) (t : Ident) → class_at x.ident nodes ≡ Some k → built_at k built ≡ Some t → filled x.ident f ≡ t) → composed us f ≡ l
@@ -342,9 +343,11 @@ module _ (es : List Equation) (lawful : IsLawful es) (nodes : List Node) (s : Is
     unifies [] inside = tt
     unifies (e ∷ rest) inside =
         let o = s.joined.stated e (inside e (inl refl)) in
-        let d = done e.left o.0 o.1 in
-        (becomes (suc (weight e.left)) e.left o.0 d.0 (let x : weight e.left ≡ weight e.left = refl in omega (arith, x)) o.1 d.1
-          ∙ sym (becomes (suc (weight e.right)) e.right o.0 d.0 (let x : weight e.right ≡ weight e.right = refl in omega (arith, x)) o.2 d.1), unifies rest (λ x h. inside x (inr h)))
+        let d = done e.left o.0 o.1 in (
+          becomes (suc (weight e.left)) e.left o.0 d.0 (let x : weight e.left ≡ weight e.left = refl in omega (arith, x)) o.1 d.1
+              ∙ sym (becomes (suc (weight e.right)) e.right o.0 d.0 (let x : weight e.right ≡ weight e.right = refl in omega (arith, x)) o.2 d.1),
+          unifies rest (λ x h. inside x (inr h)),
+        )
 
   all : Answers nodes built table.one done nodes [] (answer built nodes [])
   all = answers nodes built table.one done nodes [] (λ x h. h) (no-fills nodes built table.one)
@@ -352,20 +355,24 @@ module _ (es : List Equation) (lawful : IsLawful es) (nodes : List Node) (s : Is
   -- what the answer puts at a hole
   at : (n : Text) → ((k : ℕ) × In nodes (Hole n) k × (built_at k built ≡ Some (at_hole n (answer built nodes [])))) ⊎ (at_hole n (answer built nodes []) ≡ Hole n)
   at n = elim (some-or-none (found n (answer built nodes []))) [
-      inl e ↦ inr (ap (λ o. unwrap_or o (Hole n)) e)
-    | inr (t, e) ↦ let o = all.fills.only n t e in inl (o.0, o.1, o.2 ∙ sym (ap (λ o. Some (unwrap_or o (Hole n))) e)) ]
+    | inl e ↦ inr (ap (λ o. unwrap_or o (Hole n)) e)
+    | inr (t, e) ↦ let o = all.fills.only n t e in inl (o.0, o.1, o.2 ∙ sym (ap (λ o. Some (unwrap_or o (Hole n))) e))
+  ]
 
   general : (g : List Fill) → IsUnifier es g → (n : Text) → filled (at_hole n (answer built nodes [])) g ≡ at_hole n g
   general g u n = elim (at n) [
-      inl (k, p, b) ↦ st.general g u k (Hole n) (at_hole n (answer built nodes [])) b p
-    | inr e ↦ ap (λ i. filled i g) e ]
+    | inl (k, p, b) ↦ st.general g u k (Hole n) (at_hole n (answer built nodes [])) b p
+    | inr e ↦ ap (λ i. filled i g) e
+  ]
 
   least : (n m : Text) → at_hole n (answer built nodes []) ≡ Hole m → Before n m → ⊥
   least n m e b = elim (at n) [
-      inr f ↦ not_before_itself m (subst (λ z. Before z m) (Hole-name n m (sym f ∙ e)) b)
+    | inr f ↦ not_before_itself m (subst (λ z. Before z m) (Hole-name n m (sym f ∙ e)) b)
     | inl (k, p, d) ↦ elim (st.entries k (at_hole n (answer built nodes [])) d) [
-        inl h ↦ h.first n p (subst (λ z. Before n z) (sym (Hole-name h.name m (sym h.is ∙ e))) b)
-      | inr x ↦ made-not-hole x.unit x.fills x.name m (sym x.is ∙ e) ] ]
+      | inl h ↦ h.first n p (subst (λ z. Before n z) (sym (Hole-name h.name m (sym h.is ∙ e))) b)
+      | inr x ↦ made-not-hole x.unit x.fills x.name m (sym x.is ∙ e)
+    ]
+  ]
 
   pub is-answer : IsAnswer es (answer built nodes [])
   is-answer = record {

@@ -27,6 +27,7 @@ use Rattle.hole_unify.specs.Tables.{In, One, IsTable}
 use Rattle.hole_unify.specs.Close.{IsSettled}
 use Rattle.hole_unify.specs.Reach.{edges_of, least_from}
 use Rattle.hole_unify.specs.Build.{built_at, at_class, ident_built, with_fill, fills_built, module_of, is_module, has_module, term_hole, class_hole, least_hole, hole_of, term_ready, entry_of, node_ready, first_ready}
+use Rattle.hole_unify.specs.Stands.{Builds, NoFills, MoreFills, made, IsHole, IsMade, IsEntry, Stands}
 use Rattle.hole_unify.proofs.Terms.{Module-is, Hole-not-Module}
 use Rattle.hole_unify.proofs.Tables.{Among-left, Among-right, Among-cases, Among-map, Among-mapped, Some-same, class_at-found, class_at-none, sound-In, One-same}
 use Rattle.hole_unify.proofs.Gaps.{settled-same, fill-class, one_head, one_fill}
@@ -74,11 +75,6 @@ built-last k (x ∷ xs) t p = by (nat_eq x.class k) p (built-last k xs t)
     by true q r = cc
     by false q r = r q
 
--- the fills that are built stand in parallel
-pub data Builds (nodes : List Node) (built : List Entry) : List Fill → List Fill → Type 0 where
-  NoFills : Builds nodes built [] []
-  MoreFills : (f : Fill) (k : ℕ) (t : Ident) (fs l : List Fill) → class_at f.ident nodes ≡ Some k → built_at k built ≡ Some t → Builds nodes built fs l → Builds nodes built (f ∷ fs) (record { hole = f.hole; ident = t } ∷ l)
-
 module _ (nodes : List Node) (built : List Entry) where
   ident-built : (i t : Ident) → ident_built nodes built i ≡ Some t → (k : ℕ) × (class_at i nodes ≡ Some k) × (built_at k built ≡ Some t)
   ident-built i t = by (class_at i nodes) refl
@@ -110,31 +106,6 @@ module _ (nodes : List Node) (built : List Entry) where
 Builds-push : (nodes : List Node) (built : List Entry) (e : Entry) (fs l : List Fill) → Builds nodes built fs l → Builds nodes (built ++ e ∷ []) fs l
 Builds-push nodes built e fs l NoFills = NoFills
 Builds-push nodes built e fs l (MoreFills f k t gs r p q b) = MoreFills f k t gs r p (built-push k built e t q) (Builds-push nodes built e gs r b)
-
--- ---- what an entry is
-
-abbrev pub made : OfUnit → List Fill → Text → Ident
-made u l m = Module (roll-Unit (record { component = (out-Unit u).component; fills = l })) m
-
--- the least hole of a class without a module
-pub record IsHole (nodes : List Node) (k : ℕ) (t : Ident) : Type 0 where
-  pub name : Text
-  pub is : t ≡ Hole name
-  pub listed : In nodes (Hole name) k
-  pub no_module : (u : OfUnit) (m : Text) → In nodes (Module u m) k → ⊥
-  pub first : (n : Text) → In nodes (Hole n) k → Before n name → ⊥
-
--- a module of the class, with what is built for its fills
-pub record IsMade (nodes : List Node) (built : List Entry) (k : ℕ) (t : Ident) : Type 0 where
-  pub unit : OfUnit
-  pub name : Text
-  pub fills : List Fill
-  pub listed : In nodes (Module unit name) k
-  pub builds : Builds nodes built (out-Unit unit).fills fills
-  pub is : t ≡ made unit fills name
-
-abbrev pub IsEntry : List Node → List Entry → ℕ → Ident → Type 0
-IsEntry nodes built k t = IsHole nodes k t ⊎ IsMade nodes built k t
 
 -- ---- holes and modules of a class
 
@@ -241,8 +212,9 @@ or-neither (Some x) b e = cc
 first-in : (nodes : List Node) (built : List Entry) (rest : List Node) (e : Entry) → ((x : Node) → Among x rest → Among x nodes) → first_ready nodes built rest ≡ Some e → IsReady nodes built e
 first-in nodes built [] e inside f = cc
 first-in nodes built (x ∷ rest) e inside f = elim (or-either (node_ready nodes built x) (first_ready nodes built rest) e f) [
-    inl a ↦ node-ready nodes built x e (inside x (inl refl)) a
-  | inr b ↦ first-in nodes built rest e (λ y h. inside y (inr h)) b ]
+  | inl a ↦ node-ready nodes built x e (inside x (inl refl)) a
+  | inr b ↦ first-in nodes built rest e (λ y h. inside y (inr h)) b
+]
 
 pub first-ready : (nodes : List Node) (built : List Entry) (e : Entry) → first_ready nodes built nodes ≡ Some e → IsReady nodes built e
 first-ready nodes built e f = first-in nodes built nodes e (λ x h. h) f
@@ -250,14 +222,11 @@ first-ready nodes built e f = first-in nodes built nodes e (λ x h. h) f
 pub none-in : (nodes : List Node) (built : List Entry) (rest : List Node) → first_ready nodes built rest ≡ None → (x : Node) → Among x rest → node_ready nodes built x ≡ None
 none-in nodes built [] f x h = absurd h
 none-in nodes built (y ∷ rest) f x h = elim h [
-    inl e ↦ subst (λ z. node_ready nodes built z ≡ None) e (or-neither (node_ready nodes built y) (first_ready nodes built rest) f).0
-  | inr g ↦ none-in nodes built rest (or-neither (node_ready nodes built y) (first_ready nodes built rest) f).1 x g ]
+  | inl e ↦ subst (λ z. node_ready nodes built z ≡ None) e (or-neither (node_ready nodes built y) (first_ready nodes built rest) f).0
+  | inr g ↦ none-in nodes built rest (or-neither (node_ready nodes built y) (first_ready nodes built rest) f).1 x g
+]
 
 -- ---- what is built keeps
-
-pub record Stands (es : List Equation) (nodes : List Node) (built : List Entry) : Type 0 where
-  pub entries : (k : ℕ) (t : Ident) → built_at k built ≡ Some t → IsEntry nodes built k t
-  pub general : (g : List Fill) → IsUnifier es g → (k : ℕ) (a t : Ident) → built_at k built ≡ Some t → In nodes a k → filled t g ≡ filled a g
 
 pub no-entries : (es : List Equation) (nodes : List Node) → Stands es nodes []
 no-entries es nodes = record { entries = λ k t e. cc; general = λ g u k a t e p. cc }
@@ -367,16 +336,19 @@ mutual
   row-unit : {k : _} (r : Row_of-Fill k) (u : OfUnit) (m : Text) → Among (Module u m) (terms_of_row r) → Among u (units_of_row r)
   row-unit end_of-Fill u m h = absurd h
   row-unit (more_of-Fill n i r) u m h = elim (Among-cases (Module u m) (terms_of i) (terms_of_row r) h) [
-      inl a ↦ Among-left u (units_of i) _ (term-unit i u m a)
-    | inr b ↦ Among-right u (units_of i) _ (row-unit r u m b) ]
+    | inl a ↦ Among-left u (units_of i) _ (term-unit i u m a)
+    | inr b ↦ Among-right u (units_of i) _ (row-unit r u m b)
+  ]
 
 pub listed-unit : (es : List Equation) (u : OfUnit) (m : Text) → Among (Module u m) (terms_in es) → Among u (units_in es)
 listed-unit [] u m h = absurd h
 listed-unit (x ∷ es) u m h = elim (Among-cases (Module u m) (terms_of x.left) _ h) [
-    inl a ↦ Among-left u (units_of x.left) _ (term-unit x.left u m a)
+  | inl a ↦ Among-left u (units_of x.left) _ (term-unit x.left u m a)
   | inr r ↦ Among-right u (units_of x.left) _ (elim (Among-cases (Module u m) (terms_of x.right) _ r) [
-      inl b ↦ Among-left u (units_of x.right) _ (term-unit x.right u m b)
-    | inr c ↦ Among-right u (units_of x.right) _ (listed-unit es u m c) ]) ]
+    | inl b ↦ Among-left u (units_of x.right) _ (term-unit x.right u m b)
+    | inr c ↦ Among-right u (units_of x.right) _ (listed-unit es u m c)
+  ])
+]
 
 -- rising fills are found
 before-all : (h : Text) (fs : List Fill) (f : Fill) → RiseAfter h (map (λ x. x.hole) fs) → Among f fs → Before h f.hole

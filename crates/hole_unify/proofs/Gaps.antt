@@ -75,8 +75,9 @@ module _ (es : List Equation) (nodes : List Node) (table : IsTable es nodes) whe
     fills_gap-says : (fs : List Fill) (o : Open) → fills_gap nodes (out-Unit u).fills (out-Unit v).fills fs ≡ Some o → IsOpen o
     fills_gap-says [] o e = cc
     fills_gap-says (f ∷ fs) o e = elim (or-some (fill_gap nodes (found f.hole (out-Unit u).fills) (found f.hole (out-Unit v).fills)) (fills_gap nodes (out-Unit u).fills (out-Unit v).fills fs) o e) [
-        inl a ↦ fill_gap-says f.hole o a
-      | inr b ↦ fills_gap-says fs o b ]
+      | inl a ↦ fill_gap-says f.hole o a
+      | inr b ↦ fills_gap-says fs o b
+    ]
 
   units_open-says : (u v : OfUnit) (m n : Text) (o : Open) → Same es (Module u m) (Module v n) → units_open nodes u m v n ≡ Some o → IsOpen o
   units_open-says u v m n o same = by (bytes_eq (out-Unit u).component (out-Unit v).component) (bytes_eq m n) refl refl
@@ -105,14 +106,16 @@ module _ (es : List Equation) (nodes : List Node) (table : IsTable es nodes) whe
   open_with-says : (x : Node) (rest : List Node) (o : Open) → Among x nodes → ((y : Node) → Among y rest → Among y nodes) → open_with nodes x rest ≡ Some o → IsOpen o
   open_with-says x [] o h inside e = cc
   open_with-says x (y ∷ rest) o h inside e = elim (or-some (pair_open nodes x y) (open_with nodes x rest) o e) [
-      inl a ↦ pair_open-says x y o h (inside y (inl refl)) a
-    | inr b ↦ open_with-says x rest o h (λ z g. inside z (inr g)) b ]
+    | inl a ↦ pair_open-says x y o h (inside y (inl refl)) a
+    | inr b ↦ open_with-says x rest o h (λ z g. inside z (inr g)) b
+  ]
 
   open_in-says : (rest : List Node) (o : Open) → ((y : Node) → Among y rest → Among y nodes) → open_in nodes rest ≡ Some o → IsOpen o
   open_in-says [] o inside e = cc
   open_in-says (x ∷ rest) o inside e = elim (or-some (open_with nodes x nodes) (open_in nodes rest) o e) [
-      inl a ↦ open_with-says x nodes o (inside x (inl refl)) (λ y h. h) a
-    | inr b ↦ open_in-says rest o (λ z g. inside z (inr g)) b ]
+    | inl a ↦ open_with-says x nodes o (inside x (inl refl)) (λ y h. h) a
+    | inr b ↦ open_in-says rest o (λ z g. inside z (inr g)) b
+  ]
 
   pub first_open-says : (o : Open) → first_open nodes ≡ Some o → IsOpen o
   first_open-says o e = open_in-says nodes o (λ y h. h) e
@@ -123,14 +126,16 @@ module _ (nodes : List Node) (none : first_open nodes ≡ None) where
   open_with-none : (x : Node) (rest : List Node) → open_with nodes x rest ≡ None → (y : Node) → Among y rest → pair_open nodes x y ≡ None
   open_with-none x [] e y h = absurd h
   open_with-none x (z ∷ rest) e y h = elim h [
-      inl is ↦ subst (λ v. pair_open nodes x v ≡ None) is (or-none (pair_open nodes x z) (open_with nodes x rest) e).0
-    | inr g ↦ open_with-none x rest (or-none (pair_open nodes x z) (open_with nodes x rest) e).1 y g ]
+    | inl is ↦ subst (λ v. pair_open nodes x v ≡ None) is (or-none (pair_open nodes x z) (open_with nodes x rest) e).0
+    | inr g ↦ open_with-none x rest (or-none (pair_open nodes x z) (open_with nodes x rest) e).1 y g
+  ]
 
   open_in-none : (rest : List Node) → open_in nodes rest ≡ None → (x : Node) → Among x rest → open_with nodes x nodes ≡ None
   open_in-none [] e x h = absurd h
   open_in-none (z ∷ rest) e x h = elim h [
-      inl is ↦ subst (λ v. open_with nodes v nodes ≡ None) is (or-none (open_with nodes z nodes) (open_in nodes rest) e).0
-    | inr g ↦ open_in-none rest (or-none (open_with nodes z nodes) (open_in nodes rest) e).1 x g ]
+    | inl is ↦ subst (λ v. open_with nodes v nodes ≡ None) is (or-none (open_with nodes z nodes) (open_in nodes rest) e).0
+    | inr g ↦ open_in-none rest (or-none (open_with nodes z nodes) (open_in nodes rest) e).1 x g
+  ]
 
   units-none : (u v : OfUnit) (m n : Text) (k : ℕ) → In nodes (Module u m) k → In nodes (Module v n) k → units_open nodes u m v n ≡ None
   units-none u v m n k (x, h, i, c) (y, g, j, d) =
@@ -222,8 +227,9 @@ module _ (es : List Equation) (nodes : List Node) (s : IsSettled es nodes) where
     where
       by : (u : OfUnit) × (v : OfUnit) × (m : Text) × (n : Text) × Same es (Module u m) (Module v n) × (head_of u m ≡ one) × (head_of v n ≡ other) → ⊥
       by (u, v, m, n, same, p, q) = elim (settled-same (Module u m) (Module v n) same) [
-          inl e ↦ h.differ (sym p ∙ (λ w. record { component = (out-Unit (Module-unit u v m n e w)).component; «module» = Module-name u v m n e w }) ∙ q)
-        | inr o ↦ let e = one_head nodes s.closed u v m n o.0 o.1 o.2 in h.differ (sym p ∙ (λ w. record { component = e.0 w; «module» = e.1 w }) ∙ q) ]
+        | inl e ↦ h.differ (sym p ∙ (λ w. record { component = (out-Unit (Module-unit u v m n e w)).component; «module» = Module-name u v m n e w }) ∙ q)
+        | inr o ↦ let e = one_head nodes s.closed u v m n o.0 o.1 o.2 in h.differ (sym p ∙ (λ w. record { component = e.0 w; «module» = e.1 w }) ∙ q)
+      ]
 
 pub heads-met : (es : List Equation) (nodes : List Node) (one other : Head) → IsJoined es nodes → first_open nodes ≡ Some (Heads one other) → HasHeads es one other
 heads-met es nodes one other j e = first_open-says es nodes j.table (Heads one other) e

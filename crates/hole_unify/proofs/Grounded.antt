@@ -19,7 +19,7 @@ use Rattle.hole_unify.specs.Table.{class_at, terms_in}
 use Rattle.hole_unify.specs.Tables.{In, IsTable}
 use Rattle.hole_unify.specs.Close.{IsSettled}
 use Rattle.hole_unify.specs.Reach.{edges_of}
-use Rattle.hole_unify.specs.Build.{built_at, at_class, ident_built, fills_built, module_of, has_module, least_hole, hole_of, term_ready, entry_of, node_ready, first_ready}
+use Rattle.hole_unify.specs.Build.{built_at, at_class, ident_built, fills_built, module_of, has_module, least_hole, hole_of, hole_ready, term_ready, entry_of, node_ready, first_ready}
 use Rattle.hole_unify.proofs.Terms.{Module-is}
 use Rattle.hole_unify.proofs.Tables.{class_at-found, Among-map}
 use Rattle.hole_unify.proofs.Gaps.{fill-class}
@@ -31,6 +31,8 @@ use denote.Hole.Carrier.{hidden}
 pub term_ready-Module : (nodes : List Node) (built : List Entry) (z : ℕ) (v : OfUnit) (y : Text) → term_ready nodes built z (Module v y) ≡ module_of v y (fills_built nodes built (out-Unit v).fills)
 unfolding hidden-the_row-Unit-0 hidden
 term_ready-Module nodes built z v y = refl
+
+pub ruleset ready_equations = (term_ready-Module)
 
 -- no hole's class reaches itself
 pub record IsAcyclic (nodes : List Node) : Type 0 where
@@ -95,8 +97,9 @@ module _ (es : List Equation) (lawful : IsLawful es) (nodes : List Node) (s : Is
   -- a module whose fills are built is ready
   module-done : (u : OfUnit) (m : Text) (k : ℕ) → In nodes (Module u m) k → Fills u → Done k
   module-done u m k (x, h, i, c) fills = elim (some-or-none (built_at k built)) [
-      inr d ↦ d
-    | inl n ↦ absurd (ready n) ]
+    | inr d ↦ d
+    | inl n ↦ absurd (ready n)
+  ]
     where
       each : (f : Fill) → Among f (out-Unit u).fills → (t : Ident) × (ident_built nodes built f.ident ≡ Some t)
       each f a =
@@ -115,8 +118,9 @@ module _ (es : List Equation) (lawful : IsLawful es) (nodes : List Node) (s : Is
   -- a hole of a class without a module is ready
   hole-done : (n : Text) (k : ℕ) → In nodes (Hole n) k → has_module k nodes ≡ false → Done k
   hole-done n k (x, h, i, c) none = elim (some-or-none (built_at k built)) [
-      inr d ↦ d
-    | inl e ↦ absurd (ready e (some-or-none (least_hole k nodes))) ]
+    | inr d ↦ d
+    | inl e ↦ absurd (ready e (some-or-none (least_hole k nodes)))
+  ]
     where
       ready : built_at k built ≡ None → (least_hole k nodes ≡ None) ⊎ ((m : Text) × (least_hole k nodes ≡ Some m)) → ⊥
       ready e (inl q) = no-least k nodes q n (x, h, i, c)
@@ -137,10 +141,12 @@ module _ (es : List Equation) (lawful : IsLawful es) (nodes : List Node) (s : Is
 
   step-without : (left : List ℕ) (k l : ℕ) → Left left k → Among (record { from = k; to = l }) (edges_of nodes nodes) → Left (without k left) l
   step-without left k l so e n j p = elim (so n j p) [
-      inl a ↦ elim (Among-without k j left a) [
-        inl i ↦ inr (subst (λ z. Path (edges_of nodes nodes) z l) (sym i) (First (record { from = k; to = l }) e))
-      | inr b ↦ inl b ]
-    | inr q ↦ inr (Then j (record { from = k; to = l }) q e) ]
+    | inl a ↦ elim (Among-without k j left a) [
+      | inl i ↦ inr (subst (λ z. Path (edges_of nodes nodes) z l) (sym i) (First (record { from = k; to = l }) e))
+      | inr b ↦ inl b
+    ]
+    | inr q ↦ inr (Then j (record { from = k; to = l }) q e)
+  ]
 
   -- by the number of holes that are left
   abbrev Outer : ℕ → Type 0
@@ -158,14 +164,15 @@ module _ (es : List Equation) (lawful : IsLawful es) (nodes : List Node) (s : Is
       by true d =
           let m = find-module k nodes d in
           module-done m.0 m.1 k m.2 (λ f i l e c.
-              outer (without k left) (let x = without-falls k left here in omega (arith, x, lt)) i l (class_at-found i nodes l c) (step-without left k l so (edge m.0 m.1 f k l i m.2 e c)))
+          outer (without k left) (let x = without-falls k left here in omega (arith, x, lt)) i l (class_at-found i nodes l c) (step-without left k l so (edge m.0 m.1 f k l i m.2 e c)))
 
   -- by the weight of a term of the class
   inner : (n : ℕ) → Outer n → (w : ℕ) (left : List ℕ) → length left < suc n → (a : Ident) (k : ℕ) → weight a < w → In nodes a k → Left left k → Done k
   inner n outer zero left lt a k lw p so = absurd (omega (arith, lw))
   inner n outer (suc w) left lt a k lw p so = elim (some-or-none (least_hole k nodes)) [
-      inr q ↦ with-hole n outer left lt a k p so q.0 (least-hole k nodes q.0 q.1).0
-    | inl q ↦ cases a lw p q (λ i l lw' p' so'. inner n outer w left lt i l lw' p' so') ]
+    | inr q ↦ with-hole n outer left lt a k p so q.0 (least-hole k nodes q.0 q.1).0
+    | inl q ↦ cases a lw p q (λ i l lw' p' so'. inner n outer w left lt i l lw' p' so')
+  ]
     where
       cases : (b : Ident) → weight b < suc w → In nodes b k → least_hole k nodes ≡ None → ((i : Ident) (l : ℕ) → weight i < w → In nodes i l → Left left l → Done l) → Done k
       cases (Hole h) lw p q below = absurd (no-least k nodes q h p)
@@ -174,7 +181,7 @@ module _ (es : List Equation) (lawful : IsLawful es) (nodes : List Node) (s : Is
           let here : In nodes (Module u m) k = subst (λ v. In nodes v k) is p in
           let light : weight (Module u m) < suc w = subst (λ v. weight v < suc w) is lw in
           module-done u m k here (λ h i l e c.
-              below i l (let x = fill-lighter u m h i e in omega (arith, x, light)) (class_at-found i nodes l c) (step-left left k l so (edge u m h k l i here e c)))
+          below i l (let x = fill-lighter u m h i e in omega (arith, x, light)) (class_at-found i nodes l c) (step-left left k l so (edge u m h k l i here e c)))
 
   all : (n : ℕ) → Outer n
   all zero left lt a k p so = absurd (omega (arith, lt))

@@ -8,3 +8,8 @@ pub mod Opening
 pub mod Gaps
 pub mod Closings
 pub mod Reaching
+pub mod Building
+pub mod Grounded
+pub mod Answering
+pub mod Solving
+pub mod Pushing

@@ -59,8 +59,9 @@ module _ (nodes : List Node) where
   fills_edges-say : (k : ℕ) (u : OfUnit) (m : Text) (e : Edge) (fs : List Fill) → In nodes (Module u m) k → Among e (fills_edges nodes k (out-Unit u).fills fs) → IsEdge nodes e
   fills_edges-say k u m e [] p a = absurd a
   fills_edges-say k u m e (f ∷ fs) p a = elim (Among-cases e (fill_edge nodes k (found f.hole (out-Unit u).fills)) _ a) [
-      inl b ↦ fill_edge-says k u m f.hole e (found f.hole (out-Unit u).fills) p refl b
-    | inr c ↦ fills_edges-say k u m e fs p c ]
+    | inl b ↦ fill_edge-says k u m f.hole e (found f.hole (out-Unit u).fills) p refl b
+    | inr c ↦ fills_edges-say k u m e fs p c
+  ]
 
   term_edges-say : (k : ℕ) (t : Ident) (e : Edge) → In nodes t k → Among e (term_edges nodes k t) → IsEdge nodes e
   term_edges-say k (Hole n) e p a = absurd a
@@ -69,8 +70,9 @@ module _ (nodes : List Node) where
   edges-say : (rest : List Node) (e : Edge) → ((x : Node) → Among x rest → Among x nodes) → Among e (edges_of nodes rest) → IsEdge nodes e
   edges-say [] e inside a = absurd a
   edges-say (x ∷ rest) e inside a = elim (Among-cases e (term_edges nodes x.class x.ident) _ a) [
-      inl b ↦ term_edges-say x.class x.ident e (x, inside x (inl refl), refl, refl) b
-    | inr c ↦ edges-say rest e (λ y h. inside y (inr h)) c ]
+    | inl b ↦ term_edges-say x.class x.ident e (x, inside x (inl refl), refl, refl) b
+    | inr c ↦ edges-say rest e (λ y h. inside y (inr h)) c
+  ]
 
   pub edge-says : (e : Edge) → Among e (edges_of nodes nodes) → IsEdge nodes e
   edge-says e a = edges-say nodes e (λ x h. h) a
@@ -277,8 +279,9 @@ module _ (es : List Equation) (nodes : List Node) (s : IsSettled es nodes) where
   -- what is the same as something in the table is in the table
   follow : (a b : Ident) (k : ℕ) → Same es a b → In nodes a k → In nodes b k
   follow a b k same p = elim (settled-same es nodes s a b same) [
-      inl e ↦ subst (λ z. In nodes z k) e p
-    | inr o ↦ subst (λ z. In nodes b z) (table.one a o.0 k o.1 p) o.2 ]
+    | inl e ↦ subst (λ z. In nodes z k) e p
+    | inr o ↦ subst (λ z. In nodes b z) (table.one a o.0 k o.1 p) o.2
+  ]
 
   reaches-path : (a b : Ident) → Reaches es a b → (k : ℕ) → In nodes a k → (l : ℕ) × In nodes b l × Path (edges_of nodes nodes) k l
   reaches-path a b (Next x y u m h i same f to) k p =
@@ -292,8 +295,9 @@ module _ (es : List Equation) (nodes : List Node) (s : IsSettled es nodes) where
 
   reaches-listed : (a b : Ident) → Reaches es a b → (n : Text) → a ≡ Hole n → (k : ℕ) × In nodes a k
   reaches-listed a b (Next x y u m h i same f to) n is = elim (settled-same es nodes s x (Module u m) same) [
-      inl e ↦ absurd (Hole-not-Module n u m (sym is ∙ e))
-    | inr o ↦ (o.0, o.1) ]
+    | inl e ↦ absurd (Hole-not-Module n u m (sym is ∙ e))
+    | inr o ↦ (o.0, o.1)
+  ]
   reaches-listed a b (Through x y z r t) n is = reaches-listed x y r n is
 
   -- a hole's class reaches itself exactly where the table says so

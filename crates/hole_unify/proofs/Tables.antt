@@ -111,8 +111,9 @@ fresh-push nodes t k new f = record {
     -- an old node of the new node's class has its term
     old-apart : (x : Node) → Among x nodes → x.class ≡ k → x.ident ≡ t
     old-apart x a e = elim new [
-        inl j ↦ f.apart x j.0 a j.1 (e ∙ sym j.3) ∙ j.2
-      | inr n ↦ let lt = f.below x a in absurd (below-self x.class lt (e ∙ n.1)) ]
+      | inl j ↦ f.apart x j.0 a j.1 (e ∙ sym j.3) ∙ j.2
+      | inr n ↦ let lt = f.below x a in absurd (below-self x.class lt (e ∙ n.1))
+    ]
       where
         below-self : (p : ℕ) → p < length nodes → p ≡ length nodes → ⊥
         below-self p l m = omega arith
@@ -153,8 +154,9 @@ numbered-listed (s ∷ ts) nodes t (inr h) = numbered-listed ts _ t h
 numbered-only : (ts : List Ident) (nodes : List Node) (x : Node) → Among x (numbered ts nodes) → Among x nodes ⊎ Among x.ident ts
 numbered-only [] nodes x h = inl h
 numbered-only (t ∷ ts) nodes x h = elim (numbered-only ts _ x h) [
-    inl a ↦ elim (Among-cases x nodes _ a) [ inl b ↦ inl b | inr c ↦ elim c [ inl e ↦ inr (inl (ap (λ v. v.ident) e)) | inr n ↦ absurd n ] ]
-  | inr b ↦ inr (inr b) ]
+  | inl a ↦ elim (Among-cases x nodes _ a) [ inl b ↦ inl b | inr c ↦ elim c [ inl e ↦ inr (inl (ap (λ v. v.ident) e)) | inr n ↦ absurd n ] ]
+  | inr b ↦ inr (inr b)
+]
 
 no-nodes : IsFresh []
 no-nodes = record { one = λ t k l a b. absurd a.1; apart = λ x y a b e. absurd a; below = λ x a. absurd a }
@@ -311,8 +313,9 @@ mutual
   below-row : {k : _} (r : Row_of-Fill k) (u : OfUnit) (m : Text) (i : Ident) → Among (Module u m) (terms_of_row r) → Among i (terms_in_fills (out-Unit u).fills) → Among i (terms_of_row r)
   below-row end_of-Fill u m i h g = absurd h
   below-row (more_of-Fill n a r) u m i h g = elim (Among-cases (Module u m) (terms_of a) (terms_of_row r) h) [
-      inl x ↦ Among-left i (terms_of a) _ (below-term a u m i x g)
-    | inr y ↦ Among-right i (terms_of a) _ (below-row r u m i y g) ]
+    | inl x ↦ Among-left i (terms_of a) _ (below-term a u m i x g)
+    | inr y ↦ Among-right i (terms_of a) _ (below-row r u m i y g)
+  ]
 
 found-listed : (n : Text) (fs : List Fill) (i : Ident) → found n fs ≡ Some i → Among i (terms_in_fills fs)
 found-listed n [] i e = cc
@@ -327,7 +330,9 @@ fill-listed [] u m n i h e = absurd h
 fill-listed (x ∷ es) u m n i h e =
     let g = found-listed n (out-Unit u).fills i e in
     elim (Among-cases (Module u m) (terms_of x.left) _ h) [
-      inl a ↦ Among-left i (terms_of x.left) _ (below-term x.left u m i a g)
-    | inr r ↦ Among-right i (terms_of x.left) _ (elim (Among-cases (Module u m) (terms_of x.right) _ r) [
-        inl b ↦ Among-left i (terms_of x.right) _ (below-term x.right u m i b g)
-      | inr c ↦ Among-right i (terms_of x.right) _ (fill-listed es u m n i c e) ]) ]
+      | inl a ↦ Among-left i (terms_of x.left) _ (below-term x.left u m i a g)
+      | inr r ↦ Among-right i (terms_of x.left) _ (elim (Among-cases (Module u m) (terms_of x.right) _ r) [
+        | inl b ↦ Among-left i (terms_of x.right) _ (below-term x.right u m i b g)
+        | inr c ↦ Among-right i (terms_of x.right) _ (fill-listed es u m n i c e)
+      ])
+    ]

@@ -72,9 +72,12 @@ abbrev pub hole_of : Option Text → Option Ident
 hole_of None = None
 hole_of (Some n) = Some (Hole n)
 
+abbrev pub hole_ready : List Node → ℕ → Option Ident
+hole_ready nodes k = if has_module k nodes then None else hole_of (least_hole k nodes)
+
 -- a class without a module is its least hole; else a module of it, with what is built for its fills
 abbrev pub term_ready : List Node → List Entry → ℕ → Ident → Option Ident
-term_ready nodes built k (Hole n) = if has_module k nodes then None else hole_of (least_hole k nodes)
+term_ready nodes built k (Hole n) = hole_ready nodes k
 term_ready nodes built k (Module' s (more_of-Unit u end_of-Unit) m) = module_of u m (fills_built nodes built (out-Unit u).fills)
 
 abbrev pub entry_of : ℕ → Option Ident → Option Ident → Option Entry
@@ -89,6 +92,11 @@ node_ready nodes built x = entry_of x.class (built_at x.class built) (term_ready
 abbrev pub first_ready : List Node → List Entry → List Node → Option Entry
 first_ready nodes built [] = None
 first_ready nodes built (x ∷ rest) = option_or (node_ready nodes built x) (first_ready nodes built rest)
+
+-- one entry more, where there is one
+abbrev pub Pushes : Option Entry → List Entry → List Entry → Bool → Type 0
+Pushes None old new more = (more ≡ false) × (new ≡ old)
+Pushes (Some e) old new more = (more ≡ true) × (new ≡ old ++ e ∷ [])
 
 -- ---- the fills of the holes
 

@@ -7,3 +7,5 @@ pub mod Tables
 pub mod Close
 pub mod Reach
 pub mod Build
+pub mod Stands
+pub mod Solve

@@ -1,8 +1,15 @@
 //! Building the answer from closed classes, none of whose holes reaches itself.
-ghost use Rattle.std.specs.Prelude.{◌≡◌, ◌×◌, [], ◌∷◌, ◌++◌, true, false, IfOk, OnOk};
+ghost use Rattle.std.specs.Prelude.{◌≡◌, List, [], IfOk, OnOk};
+ghost use Rattle.std.specs.Ordering.{nat_cmp};
+ghost use Rattle.std.specs.Cmp.Lexicographic.{slice_cmp};
+ghost use Rattle.hole_unify.specs.declared.equation.Equation.{Equation};
+ghost use Rattle.hole_unify.specs.Table.{is_same};
+ghost use Rattle.hole_unify.specs.Tables.{IsTable};
+ghost use Rattle.hole_unify.specs.Stands.{Stands};
+ghost use Rattle.bp_base.specs.declared.ident.Ident.TheVariants.{Hole};
 ghost use Rattle.std.specs.Option.{option_copied};
 ghost use Rattle.unit_identity.specs.Fill.{found};
-ghost use Rattle.hole_unify.specs.Build.{built_at, ident_built, fills_built, is_module, has_module, class_hole, least_hole, term_ready, node_ready, first_ready, Pushes, place, hole_put, term_put, answer};
+ghost use Rattle.hole_unify.specs.Build.{built_at, ident_built, fills_built, module_of, is_module, has_module, class_hole, least_hole, hole_ready, term_ready, node_ready, first_ready, Pushes, is_less, place, inserted, hole_put, term_put, answer};
 
 use crate::reach::lesser_name;
 use crate::table::{Node, class_of};
@@ -62,6 +69,7 @@ fn build_fills(
     Ok(Some(all))
 }
 
+#[tactic(auto, using(crate::proofs::Pushing::variant_equations))]
 fn is_of_module(ident: &Ident) -> bool
     ensures { result ≡ is_module ident.now }
 {
@@ -82,6 +90,7 @@ fn class_has_module(nodes: &[Node], class: usize) -> bool
     false
 }
 
+#[tactic(auto, using(crate::proofs::Pushing::variant_equations))]
 fn hole_in_class(alloc: Global, node: &Node, class: usize) -> Result<Option<Name>, AllocError>
     ensures { IfOk result (λ r. r ≡ class_hole class node.now) }
 {
@@ -95,11 +104,7 @@ fn hole_in_class(alloc: Global, node: &Node, class: usize) -> Result<Option<Name
 }
 
 /// The least hole of a class.
-fn find_least_hole(
-    alloc: Global,
-    nodes: &[Node],
-    class: usize,
-) -> Result<Option<Name>, AllocError>
+fn find_least_hole(alloc: Global, nodes: &[Node], class: usize) -> Result<Option<Name>, AllocError>
     ensures { IfOk result (λ r. r ≡ least_hole class nodes.now) }
 {
     let mut best = None;
@@ -193,11 +198,7 @@ fn build_node(
 }
 
 /// The first class that is not built and can be.
-fn build_next(
-    alloc: Global,
-    nodes: &[Node],
-    built: &[Entry],
-) -> Result<Option<Entry>, AllocError>
+fn build_next(alloc: Global, nodes: &[Node], built: &[Entry]) -> Result<Option<Entry>, AllocError>
     ensures { IfOk result (λ r. r ≡ first_ready nodes.now built.now nodes.now) }
 {
     for node in nodes {
@@ -222,18 +223,23 @@ fn add_next(alloc: Global, nodes: &[Node], built: &mut Vec<Entry>) -> Result<boo
 }
 
 /// Builds all classes.
-pub fn build(
-    alloc: Global,
-    equations: &[Equation],
-    nodes: &[Node],
-) -> Result<Vec<Entry>, AllocError>
-    requires { IsSettled equations.now nodes.now }
-    ensures { IfOk result (λ built. Stands equations.now nodes.now built.items × (first_ready nodes.now built.items nodes.now ≡ None)) }
+pub fn build(alloc: Global, nodes: &[Node]) -> Result<Vec<Entry>, AllocError>
+    ensures stands { IfOk result (λ built. (es : List Equation) → IsTable es nodes.now → Stands es nodes.now built.items) }
+    ensures ends { IfOk result (λ built. first_ready nodes.now built.items nodes.now ≡ None) }
 {
-    let _count = equations.len();
     let mut built = Vec::new(alloc);
     'steps: while add_next(alloc, nodes, &mut built)? {}
     Ok(built)
+}
+
+fn is_before(a: &Name, b: &Name) -> bool
+    ensures { result ≡ is_less (slice_cmp nat_cmp a.now b.now) }
+{
+    match compare(a, b) {
+        Ordering::Less => true,
+        Ordering::Equal => false,
+        Ordering::Greater => false,
+    }
 }
 
 /// How many fills come before a hole.
@@ -241,9 +247,77 @@ fn place_of(fills: &[Fill], hole: &Name) -> usize
     ensures { result ≡ place hole.now fills.now }
 {
     for (i, each) in fills.iter().enumerate() {
-        if !matches!(compare(&each.hole, hole), Ordering::Less) {
+        if !is_before(&each.hole, hole) {
             return i;
         }
     }
     fills.len()
+}
+
+#[tactic(auto, using(crate::proofs::Pushing::variant_equations))]
+fn is_hole_of(ident: &Ident, hole: &Name) -> bool
+    ensures { result ≡ is_same ident.now (Hole hole.now) }
+{
+    match ident {
+        Ident::Hole { name } => *name == *hole,
+        Ident::Module { .. } => false,
+    }
+}
+
+fn insert_fill(fills: &mut Vec<Fill>, fill: Fill) -> Result<(), AllocError>
+    ensures { OnOk result (fills.new.items ≡ inserted fill fills.old.items) }
+{
+    let at = place_of(fills.as_slice(), &fill.hole);
+    fills.insert(at, fill)?;
+    Ok(())
+}
+
+/// Puts a fill for the hole among the others, unless it is the hole itself or is there.
+fn put_fill(
+    alloc: Global,
+    hole: &Name,
+    ident: &Ident,
+    fills: &mut Vec<Fill>,
+) -> Result<(), AllocError>
+    ensures { OnOk result (fills.new.items ≡ hole_put hole.now (Some ident.now) fills.old.items) }
+{
+    if is_hole_of(ident, hole) {
+        return Ok(());
+    }
+    if let Some(_ident) = filler(fills.as_slice(), hole) {
+        return Ok(());
+    }
+    let fill = Fill {
+        hole: hole.copied(alloc)?,
+        ident: ident.copied(alloc)?,
+    };
+    insert_fill(fills, fill)?;
+    Ok(())
+}
+
+fn put_fill_of(
+    alloc: Global,
+    built: &[Entry],
+    node: &Node,
+    fills: &mut Vec<Fill>,
+) -> Result<(), AllocError>
+    ensures { OnOk result (fills.new.items ≡ term_put node.now.ident (built_at node.now.class built.now) fills.old.items) }
+{
+    if let Ident::Hole { name } = &node.ident {
+        if let Some(ident) = entry_at(built, node.class) {
+            put_fill(alloc, name, ident, fills)?;
+        }
+    }
+    Ok(())
+}
+
+/// The fills of the holes of the table, in order of their holes.
+pub fn list_answer(alloc: Global, nodes: &[Node], built: &[Entry]) -> Result<Fills, AllocError>
+    ensures { IfOk result (λ r. r ≡ answer built.now nodes.now []) }
+{
+    let mut fills = Vec::new(alloc);
+    for node in nodes {
+        put_fill_of(alloc, built, node, &mut fills)?;
+    }
+    Ok(Items::from_vec(fills))
 }

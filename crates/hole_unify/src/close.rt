@@ -84,11 +84,7 @@ fn open_units(
     ensures { IfOk result (λ r. r ≡ units_open nodes.now one.now module.now other.now other_module.now) }
 {
     if one.component == other.component && *module == *other_module {
-        return Ok(gap_of_fills(
-            nodes,
-            one.fills.as_slice(),
-            other.fills.as_slice(),
-        ));
+        return Ok(gap_of_fills(nodes, one.fills.as_slice(), other.fills.as_slice()));
     }
     Ok(Some(Open::Heads {
         one: head(alloc, one, module)?,
@@ -145,11 +141,7 @@ fn open_pair(
 }
 
 /// What is open between a term and another one of its class.
-fn find_open_with(
-    alloc: Global,
-    nodes: &[Node],
-    one: &Node,
-) -> Result<Option<Open>, AllocError>
+fn find_open_with(alloc: Global, nodes: &[Node], one: &Node) -> Result<Option<Open>, AllocError>
     ensures { IfOk result (λ r. r ≡ open_with nodes.now one.now nodes.now) }
 {
     for other in nodes {

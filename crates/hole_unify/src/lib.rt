@@ -2,11 +2,14 @@
 //! sides of each equation one identity, and the exact reason where there are none.
 #![tactic(auto)]
 
+mod build;
+mod close;
 mod equation;
 mod laws;
-mod table;
-mod close;
 mod reach;
+mod solve;
+mod table;
 
 pub use equation::{Equation, Equations, Head, IdentUnifyError};
 pub use laws::{answers_are_one, clash_has_no_unifier, cycle_has_no_unifier};
+pub use solve::unify_idents;

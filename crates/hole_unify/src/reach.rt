@@ -171,11 +171,7 @@ pub fn lesser_name(best: Option<Name>, new: Option<Name>) -> Option<Name>
 }
 
 /// The least hole whose class reaches itself.
-pub fn find_cycle(
-    alloc: Global,
-    edges: &[Edge],
-    nodes: &[Node],
-) -> Result<Option<Name>, AllocError>
+pub fn find_cycle(alloc: Global, edges: &[Edge], nodes: &[Node]) -> Result<Option<Name>, AllocError>
     ensures { IfOk result (λ r. r ≡ least_cycle edges.now nodes.now) }
 {
     let mut best = None;
