@@ -1,0 +1,15 @@
+pub mod Unifying
+pub mod Agreement
+pub mod Closing
+pub mod Terms
+pub mod Tables
+pub mod Steps
+pub mod Opening
+pub mod Gaps
+pub mod Closings
+pub mod Reaching
+pub mod Building
+pub mod Grounded
+pub mod Answering
+pub mod Solving
+pub mod Pushing

@@ -1,0 +1,36 @@
+-- Equations of what is open between two terms.
+use Rattle.std.proofs.Common.{◌≡◌, ℕ, List, ◌++◌, refl, sym, ap, ◌∙◌}
+use Rattle.std.specs.Prelude.{Option, None}
+use Rattle.bp_base.specs.declared.ident.Ident.{Ident}
+use Rattle.bp_base.specs.declared.ident.Fill.{Fill}
+use Rattle.hole_unify.specs.declared.reach.Edge.{Edge}
+use Rattle.bp_base.specs.declared.ident.Ident.TheVariants.{Hole, Module}
+use Rattle.bp_base.specs.declared.ident.Unit.{Unit as OfUnit, out-Unit}
+use Rattle.bp_base.specs.declared.ident.Ident.TheBlock.{hidden-the_row-Unit-0}
+use Rattle.bp_base.specs.Texts.{Text}
+use Rattle.hole_unify.specs.declared.table.Node.{Node}
+use Rattle.hole_unify.specs.Close.{units_open, terms_open}
+use Rattle.hole_unify.specs.Reach.{fills_edges, term_edges}
+use denote.Hole.Carrier.{hidden}
+
+pub terms_open-Modules : (nodes : List Node) (u v : OfUnit) (m n : Text) → terms_open nodes (Module u m) (Module v n) ≡ units_open nodes u m v n
+unfolding hidden-the_row-Unit-0 hidden
+terms_open-Modules nodes u v m n = refl
+
+pub terms_open-Hole : (nodes : List Node) (u : OfUnit) (m n : Text) → terms_open nodes (Module u m) (Hole n) ≡ None
+unfolding hidden-the_row-Unit-0 hidden
+terms_open-Hole nodes u m n = refl
+
+pub ruleset opening_equations = (terms_open-Modules, terms_open-Hole)
+
+pub term_edges-Module : (nodes : List Node) (k : ℕ) (u : OfUnit) (m : Text) → term_edges nodes k (Module u m) ≡ fills_edges nodes k (out-Unit u).fills (out-Unit u).fills
+unfolding hidden-the_row-Unit-0 hidden
+term_edges-Module nodes k u m = refl
+
+pub ruleset edge_equations = (term_edges-Module)
+
+-- the edges of a module
+pub edges-step : (nodes : List Node) (k : ℕ) (a : Ident) (u : OfUnit) (m : Text) (fs : List Fill) (old new : List Edge) → a ≡ Module u m → fs ≡ (out-Unit u).fills
+    → new ≡ old ++ fills_edges nodes k fs fs → new ≡ old ++ term_edges nodes k a
+edges-step nodes k a u m fs old new is fills made =
+    made ∙ (λ w. old ++ fills_edges nodes k (fills w) (fills w)) ∙ ap (λ l. old ++ l) (sym (term_edges-Module nodes k u m)) ∙ ap (λ z. old ++ term_edges nodes k z) (sym is)

@@ -1,0 +1,338 @@
+-- The table of equations, and what joining classes keeps.
+use Rattle.std.proofs.Common.{◌≡◌, ◌≢◌, ℕ, suc, ◌+◌, ◌<◌, ◌≤◌, Bool, true, false, cond, nat_eq, List, [], ◌∷◌, ◌++◌, length, map, ◌⊎◌, inl, inr, refl, ap, sym, ◌∙◌, subst, arith, rules, length-append}
+use Rattle.std.proofs.lemmas.Bool.{eqb-true, eq-eqb}
+use Rattle.std.specs.Prelude.{Option, Some, None, unwrap_or}
+use Rattle.bp_base.specs.declared.ident.Ident.{Ident}
+use Rattle.bp_base.specs.Lists.{Among}
+use Rattle.hole_unify.specs.declared.equation.Equation.{Equation}
+use Rattle.hole_unify.specs.declared.table.Node.{Node}
+use Rattle.hole_unify.specs.Classes.{Same, Stated, Itself, Turned, Joined}
+use Rattle.hole_unify.specs.Table.{is_same, class_at, fresh_class, numbered, terms_of, terms_in, renumbered, renumbered_node, moved, join_at, joined}
+use Rattle.hole_unify.specs.Tables.{In, One, IsTable, IsJoined}
+use Rattle.std.specs.Str.{bytes_eq}
+use Rattle.bp_base.specs.declared.ident.Ident.TheVariants.{Hole, Module, Module'}
+use Rattle.bp_base.specs.declared.ident.Unit.{Unit as OfUnit, Unit', out-Unit}
+use Rattle.bp_base.specs.declared.ident.Fill.{Fill}
+use Rattle.bp_base.specs.declared.ident.Ident.TheBlock.{Row_of-Unit, end_of-Unit, more_of-Unit, Row_of-Fill, end_of-Fill, more_of-Fill}
+use Rattle.bp_base.specs.Texts.{Text}
+use Rattle.unit_identity.specs.Fill.{found}
+use Rattle.hole_unify.specs.Table.{terms_below, terms_of_row, terms_in_fills}
+use Rattle.hole_unify.proofs.Unifying.{Module-unit}
+use Rattle.hole_unify.proofs.Terms.{same_terms, terms_same, terms_below-out, Module-is, Hole-not-Module}
+
+-- ---- items of lists
+
+pub Among-left : {A : Type 0} (x : A) (xs ys : List A) → Among x xs → Among x (xs ++ ys)
+Among-left x [] ys h = absurd h
+Among-left x (z ∷ xs) ys (inl e) = inl e
+Among-left x (z ∷ xs) ys (inr h) = inr (Among-left x xs ys h)
+
+pub Among-right : {A : Type 0} (x : A) (xs ys : List A) → Among x ys → Among x (xs ++ ys)
+Among-right x [] ys h = h
+Among-right x (z ∷ xs) ys h = inr (Among-right x xs ys h)
+
+pub Among-cases : {A : Type 0} (x : A) (xs ys : List A) → Among x (xs ++ ys) → Among x xs ⊎ Among x ys
+Among-cases x [] ys h = inr h
+Among-cases x (z ∷ xs) ys (inl e) = inl (inl e)
+Among-cases x (z ∷ xs) ys (inr h) = elim (Among-cases x xs ys h) [ inl a ↦ inl (inr a) | inr b ↦ inr b ]
+
+pub Among-map : {A B : Type 0} (f : A → B) (x : A) (xs : List A) → Among x xs → Among (f x) (map f xs)
+Among-map f x [] h = absurd h
+Among-map f x (z ∷ xs) (inl e) = inl (ap f e)
+Among-map f x (z ∷ xs) (inr h) = inr (Among-map f x xs h)
+
+pub Among-mapped : {A B : Type 0} (f : A → B) (y : B) (xs : List A) → Among y (map f xs) → (x : A) × Among x xs × (f x ≡ y)
+Among-mapped f y [] h = absurd h
+Among-mapped f y (z ∷ xs) (inl e) = (z, inl refl, e)
+Among-mapped f y (z ∷ xs) (inr h) = let k = Among-mapped f y xs h in (k.0, inr k.1, k.2)
+
+-- ---- looking up
+
+pub Some-same : {A : Type 0} (a b : A) → Some a ≡ Some b → a ≡ b
+Some-same a b e = cc
+
+pub class_at-found : (t : Ident) (nodes : List Node) (k : ℕ) → class_at t nodes ≡ Some k → In nodes t k
+class_at-found t [] k e = cc
+class_at-found t (x ∷ xs) k e = by (is_same x.ident t) refl e (class_at-found t xs k)
+  where
+    by : (b : Bool) → is_same x.ident t ≡ b → cond b (Some x.class) (class_at t xs) ≡ Some k → (class_at t xs ≡ Some k → In xs t k) → In (x ∷ xs) t k
+    by true d e r = (x, inl refl, same_terms x.ident t d, Some-same x.class k e)
+    by false d e r = let y = r e in (y.0, inr y.1, y.2, y.3)
+
+pub class_at-none : (t : Ident) (nodes : List Node) → class_at t nodes ≡ None → (x : Node) → Among x nodes → x.ident ≡ t → ⊥
+class_at-none t [] e x h is = h
+class_at-none t (y ∷ ys) e x h is = by (is_same y.ident t) refl e h (λ d a. class_at-none t ys d x a is)
+  where
+    by : (b : Bool) → is_same y.ident t ≡ b → cond b (Some y.class) (class_at t ys) ≡ None → (y ≡ x) ⊎ Among x ys → (class_at t ys ≡ None → Among x ys → ⊥) → ⊥
+    by true d e h r = cc
+    by false d e (inl s) r = let p : is_same y.ident t ≡ true = ap (λ z. is_same z t) (ap (λ z. z.ident) s ∙ is) ∙ terms_same t in let q : false ≡ true = sym d ∙ p in cc
+    by false d e (inr a) r = r e a
+
+-- ---- the first numbers
+
+record IsFresh (nodes : List Node) : Type 0 where
+  one : (t : Ident) (k l : ℕ) → In nodes t k → In nodes t l → k ≡ l
+  apart : (x y : Node) → Among x nodes → Among y nodes → x.class ≡ y.class → x.ident ≡ y.ident
+  below : (x : Node) → Among x nodes → x.class < length nodes
+
+In-snoc : (nodes : List Node) (y : Node) (t : Ident) (k : ℕ) → In (nodes ++ y ∷ []) t k → In nodes t k ⊎ ((y.ident ≡ t) × (y.class ≡ k))
+In-snoc nodes y t k (x, h, i, c) = elim (Among-cases x nodes (y ∷ []) h) [ inl a ↦ inl (x, a, i, c) | inr b ↦ elim b [ inl e ↦ inr (ap (λ z. z.ident) e ∙ i, ap (λ z. z.class) e ∙ c) | inr f ↦ absurd f ] ]
+
+-- how the number of a new term is related to those in the table
+abbrev New : List Node → Ident → ℕ → Type 0
+New nodes t k = In nodes t k ⊎ (((x : Node) → Among x nodes → x.ident ≡ t → ⊥) × (k ≡ length nodes))
+
+new-class : (nodes : List Node) (t : Ident) → New nodes t (fresh_class t nodes)
+new-class nodes t = by (class_at t nodes) refl
+  where
+    by : (o : Option ℕ) → class_at t nodes ≡ o → New nodes t (unwrap_or (class_at t nodes) (length nodes))
+    by None e = inr (class_at-none t nodes e, ap (λ o. unwrap_or o (length nodes)) e)
+    by (Some k) e = inl (subst (λ o. In nodes t (unwrap_or o (length nodes))) (sym e) (class_at-found t nodes k e))
+
+fresh-push : (nodes : List Node) (t : Ident) (k : ℕ) → New nodes t k → IsFresh nodes → IsFresh (nodes ++ record { ident = t; class = k } ∷ [])
+fresh-push nodes t k new f = record {
+  one = λ s p q a b. one s p q (In-snoc nodes y s p a) (In-snoc nodes y s q b);
+  apart = λ x z a b e. apart x z (Among-cases x nodes (y ∷ []) a) (Among-cases z nodes (y ∷ []) b) e;
+  below = λ x a. below x (Among-cases x nodes (y ∷ []) a);
+}
+  where
+    y : Node
+    y = record { ident = t; class = k }
+
+    old-one : (s : Ident) (p : ℕ) → In nodes s p → t ≡ s → p ≡ k
+    old-one s p i e = elim new [ inl j ↦ f.one s p k i (subst (λ z. In nodes z k) e j) | inr n ↦ absurd (n.0 i.0 i.1 (i.2 ∙ sym e)) ]
+
+    one : (s : Ident) (p q : ℕ) → In nodes s p ⊎ ((t ≡ s) × (k ≡ p)) → In nodes s q ⊎ ((t ≡ s) × (k ≡ q)) → p ≡ q
+    one s p q (inl a) (inl b) = f.one s p q a b
+    one s p q (inl a) (inr b) = old-one s p a b.0 ∙ b.1
+    one s p q (inr a) (inl b) = sym (old-one s q b a.0 ∙ a.1)
+    one s p q (inr a) (inr b) = sym a.1 ∙ b.1
+
+    -- an old node of the new node's class has its term
+    old-apart : (x : Node) → Among x nodes → x.class ≡ k → x.ident ≡ t
+    old-apart x a e = elim new [
+      | inl j ↦ f.apart x j.0 a j.1 (e ∙ sym j.3) ∙ j.2
+      | inr n ↦ let lt = f.below x a in absurd (below-self x.class lt (e ∙ n.1))
+    ]
+      where
+        below-self : (p : ℕ) → p < length nodes → p ≡ length nodes → ⊥
+        below-self p l m = omega arith
+
+    apart : (x z : Node) → Among x nodes ⊎ Among x (y ∷ []) → Among z nodes ⊎ Among z (y ∷ []) → x.class ≡ z.class → x.ident ≡ z.ident
+    apart x z (inl a) (inl b) e = f.apart x z a b e
+    apart x z (inl a) (inr (inl b)) e = old-apart x a (e ∙ sym (ap (λ v. v.class) b)) ∙ ap (λ v. v.ident) b
+    apart x z (inl a) (inr (inr b)) e = absurd b
+    apart x z (inr (inl a)) (inl b) e = sym (old-apart z b (sym e ∙ sym (ap (λ v. v.class) a)) ∙ ap (λ v. v.ident) a)
+    apart x z (inr (inr a)) q e = absurd a
+    apart x z (inr (inl a)) (inr (inl b)) e = sym (ap (λ v. v.ident) a) ∙ ap (λ v. v.ident) b
+    apart x z (inr (inl a)) (inr (inr b)) e = absurd b
+
+    more : length (nodes ++ y ∷ []) ≡ length nodes + 1
+    more = length-append nodes (y ∷ [])
+
+    below : (x : Node) → Among x nodes ⊎ Among x (y ∷ []) → x.class < length (nodes ++ y ∷ [])
+    below x (inl a) = let lt = f.below x a in omega (arith, more, lt)
+    below x (inr (inl e)) = let is : k ≡ x.class = ap (λ v. v.class) e in
+        elim new [ inl j ↦ let lt = f.below j.0 j.1 in let c = j.3 in omega (arith, more, lt, is, c) | inr n ↦ let c = n.1 in omega (arith, more, is, c) ]
+    below x (inr (inr h)) = absurd h
+
+numbered-fresh : (ts : List Ident) (nodes : List Node) → IsFresh nodes → IsFresh (numbered ts nodes)
+numbered-fresh [] nodes f = f
+numbered-fresh (t ∷ ts) nodes f = numbered-fresh ts _ (fresh-push nodes t (fresh_class t nodes) (new-class nodes t) f)
+
+numbered-keeps : (ts : List Ident) (nodes : List Node) (x : Node) → Among x nodes → Among x (numbered ts nodes)
+numbered-keeps [] nodes x h = h
+numbered-keeps (t ∷ ts) nodes x h = numbered-keeps ts _ x (Among-left x nodes _ h)
+
+numbered-listed : (ts : List Ident) (nodes : List Node) (t : Ident) → Among t ts → (k : ℕ) × In (numbered ts nodes) t k
+numbered-listed [] nodes t h = absurd h
+numbered-listed (s ∷ ts) nodes t (inl e) =
+    let y : Node = record { ident = s; class = fresh_class s nodes } in
+    (fresh_class s nodes, (y, numbered-keeps ts (nodes ++ y ∷ []) y (Among-right y nodes (y ∷ []) (inl refl)), e, refl))
+numbered-listed (s ∷ ts) nodes t (inr h) = numbered-listed ts _ t h
+
+numbered-only : (ts : List Ident) (nodes : List Node) (x : Node) → Among x (numbered ts nodes) → Among x nodes ⊎ Among x.ident ts
+numbered-only [] nodes x h = inl h
+numbered-only (t ∷ ts) nodes x h = elim (numbered-only ts _ x h) [
+  | inl a ↦ elim (Among-cases x nodes _ a) [ inl b ↦ inl b | inr c ↦ elim c [ inl e ↦ inr (inl (ap (λ v. v.ident) e)) | inr n ↦ absurd n ] ]
+  | inr b ↦ inr (inr b)
+]
+
+no-nodes : IsFresh []
+no-nodes = record { one = λ t k l a b. absurd a.1; apart = λ x y a b e. absurd a; below = λ x a. absurd a }
+
+Same-equal : (es : List Equation) (a b : Ident) → a ≡ b → Same es a b
+Same-equal es a b e = subst (λ x. Same es a x) e (Itself a)
+
+pub first-table : (es : List Equation) → IsTable es (numbered (terms_in es) [])
+first-table es =
+    let f = numbered-fresh (terms_in es) [] no-nodes in
+    record {
+      listed = λ t h. numbered-listed (terms_in es) [] t h;
+      only = λ x h. elim (numbered-only (terms_in es) [] x h) [ inl a ↦ absurd a | inr b ↦ b ];
+      one = f.one;
+      sound = λ x y a b e. Same-equal es x.ident y.ident (f.apart x y a b e);
+    }
+
+-- ---- joining two classes
+
+-- numbers that become one
+renumbered-cases : (from to p q : ℕ) → renumbered from to p ≡ renumbered from to q → (p ≡ q) ⊎ (((p ≡ from) × (q ≡ to)) ⊎ ((p ≡ to) × (q ≡ from)))
+renumbered-cases from to p q = by (nat_eq p from) (nat_eq q from) refl refl
+  where
+    by : (a b : Bool) → nat_eq p from ≡ a → nat_eq q from ≡ b → cond (nat_eq p from) to p ≡ cond (nat_eq q from) to q → (p ≡ q) ⊎ (((p ≡ from) × (q ≡ to)) ⊎ ((p ≡ to) × (q ≡ from)))
+    by true true d e h = inl (eqb-true p from d ∙ sym (eqb-true q from e))
+    by true false d e h = inr (inl (eqb-true p from d, sym (sym (ap (λ b. cond b to p) d) ∙ h ∙ ap (λ b. cond b to q) e)))
+    by false true d e h = inr (inr (sym (ap (λ b. cond b to p) d) ∙ h ∙ ap (λ b. cond b to q) e, eqb-true q from e))
+    by false false d e h = inl (sym (ap (λ b. cond b to p) d) ∙ h ∙ ap (λ b. cond b to q) e)
+
+pub In-moved : (nodes : List Node) (from to : ℕ) (t : Ident) (k : ℕ) → In nodes t k → In (moved from to nodes) t (renumbered from to k)
+In-moved nodes from to t k (x, h, i, c) = (renumbered_node from to x, Among-map (renumbered_node from to) x nodes h, i, ap (renumbered from to) c)
+
+pub In-unmoved : (nodes : List Node) (from to : ℕ) (t : Ident) (k : ℕ) → In (moved from to nodes) t k → (l : ℕ) × In nodes t l × (renumbered from to l ≡ k)
+In-unmoved nodes from to t k (x, h, i, c) =
+    let y = Among-mapped (renumbered_node from to) x nodes h in
+    (y.0.class, (y.0, y.1, ap (λ v. v.ident) y.2 ∙ i, refl), ap (λ v. v.class) y.2 ∙ c)
+
+pub One-moved : (nodes : List Node) (from to : ℕ) (a b : Ident) → One nodes a b → One (moved from to nodes) a b
+One-moved nodes from to a b (k, p, q) = (renumbered from to k, In-moved nodes from to a k p, In-moved nodes from to b k q)
+
+-- terms of two classes become of one
+pub One-joined : (nodes : List Node) (from to : ℕ) (a b : Ident) → In nodes a from → In nodes b to → One (moved from to nodes) a b
+One-joined nodes from to a b p q =
+    let first : renumbered from to from ≡ to = ap (λ c. cond c to from) (eq-eqb from from refl) in
+    let second : renumbered from to to ≡ to = by (nat_eq to from) refl in
+    (to, subst (λ k. In (moved from to nodes) a k) first (In-moved nodes from to a from p), subst (λ k. In (moved from to nodes) b k) second (In-moved nodes from to b to q))
+  where
+    by : (c : Bool) → nat_eq to from ≡ c → cond (nat_eq to from) to to ≡ to
+    by true e = ap (λ c. cond c to to) e
+    by false e = ap (λ c. cond c to to) e
+
+-- nodes of one class are the same
+pub sound-In : (es : List Equation) (nodes : List Node) → IsTable es nodes → (a b : Ident) (k : ℕ) → In nodes a k → In nodes b k → Same es a b
+sound-In es nodes t a b k (x, h, i, c) (y, g, j, d) = subst (λ v. Same es v b) i (subst (λ v. Same es x.ident v) j (t.sound x y h g (c ∙ sym d)))
+
+pub One-same : (es : List Equation) (nodes : List Node) → IsTable es nodes → (a b : Ident) → One nodes a b → Same es a b
+One-same es nodes t a b o = sound-In es nodes t a b o.0 o.1 o.2
+
+pub moved-table : (es : List Equation) (nodes : List Node) (from to : ℕ) (a b : Ident) → In nodes a from → In nodes b to → Same es a b → IsTable es nodes → IsTable es (moved from to nodes)
+moved-table es nodes from to a b p q same t = record {
+  listed = λ s h. let k = t.listed s h in (renumbered from to k.0, In-moved nodes from to s k.0 k.1);
+  only = λ x h. let y = Among-mapped (renumbered_node from to) x nodes h in subst (λ v. Among v (terms_in es)) (ap (λ v. v.ident) y.2) (t.only y.0 y.1);
+  one = λ s k l c d. let x = In-unmoved nodes from to s k c in let y = In-unmoved nodes from to s l d in sym x.2 ∙ ap (renumbered from to) (t.one s x.0 y.0 x.1 y.1) ∙ y.2;
+  sound = λ x y h g e. sound x y (Among-mapped (renumbered_node from to) x nodes h) (Among-mapped (renumbered_node from to) y nodes g) e;
+}
+  where
+    across : (v w : Node) → Among v nodes → Among w nodes → v.class ≡ from → w.class ≡ to → Same es v.ident w.ident
+    across v w h g c d =
+        let first : Same es v.ident a = sound-In es nodes t v.ident a from (v, h, refl, c) p in
+        let last : Same es b w.ident = sound-In es nodes t b w.ident to q (w, g, refl, d) in
+        Joined v.ident a w.ident first (Joined a b w.ident same last)
+
+    of : (v w : Node) → Among v nodes → Among w nodes → (v.class ≡ w.class) ⊎ (((v.class ≡ from) × (w.class ≡ to)) ⊎ ((v.class ≡ to) × (w.class ≡ from))) → Same es v.ident w.ident
+    of v w h g (inl e) = t.sound v w h g e
+    of v w h g (inr (inl e)) = across v w h g e.0 e.1
+    of v w h g (inr (inr e)) = Turned w.ident v.ident (across w v g h e.1 e.0)
+
+    sound : (x y : Node) → (v : Node) × Among v nodes × (renumbered_node from to v ≡ x) → (w : Node) × Among w nodes × (renumbered_node from to w ≡ y) → x.class ≡ y.class → Same es x.ident y.ident
+    sound x y (v, h, c) (w, g, d) e =
+        let both = renumbered-cases from to v.class w.class (ap (λ z. z.class) c ∙ e ∙ sym (ap (λ z. z.class) d)) in
+        subst (λ z. Same es z y.ident) (ap (λ z. z.ident) c) (subst (λ z. Same es v.ident z) (ap (λ z. z.ident) d) (of v w h g both))
+
+-- ---- joining the sides of each equation
+
+join_at-table : (es : List Equation) (nodes : List Node) (a b : Ident) (left right : Option ℕ) → class_at a nodes ≡ left → class_at b nodes ≡ right → Same es a b → IsTable es nodes → IsTable es (join_at left right nodes)
+join_at-table es nodes a b None right p q s t = t
+join_at-table es nodes a b (Some from) None p q s t = t
+join_at-table es nodes a b (Some from) (Some to) p q s t = moved-table es nodes from to a b (class_at-found a nodes from p) (class_at-found b nodes to q) s t
+
+join_at-One : (nodes : List Node) (left right : Option ℕ) (a b : Ident) → One nodes a b → One (join_at left right nodes) a b
+join_at-One nodes None right a b o = o
+join_at-One nodes (Some from) None a b o = o
+join_at-One nodes (Some from) (Some to) a b o = One-moved nodes from to a b o
+
+pub listed-class : (es : List Equation) (nodes : List Node) → IsTable es nodes → (a : Ident) → Among a (terms_in es) → (k : ℕ) × (class_at a nodes ≡ Some k)
+listed-class es nodes t a h = by (class_at a nodes) refl
+  where
+    by : (o : Option ℕ) → class_at a nodes ≡ o → (k : ℕ) × (class_at a nodes ≡ Some k)
+    by None e = let x = t.listed a h in absurd (class_at-none a nodes e x.1.0 x.1.1 x.1.2)
+    by (Some k) e = (k, e)
+
+join_at-joins : (nodes : List Node) (a b : Ident) (k l : ℕ) → class_at a nodes ≡ Some k → class_at b nodes ≡ Some l → One (join_at (class_at a nodes) (class_at b nodes) nodes) a b
+join_at-joins nodes a b k l p q = subst (λ o. One (join_at o (class_at b nodes) nodes) a b) (sym p) (subst (λ o. One (join_at (Some k) o nodes) a b) (sym q) (One-joined nodes k l a b (class_at-found a nodes k p) (class_at-found b nodes l q)))
+
+joined-One : (rest : List Equation) (nodes : List Node) (a b : Ident) → One nodes a b → One (joined rest nodes) a b
+joined-One [] nodes a b o = o
+joined-One (e ∷ rest) nodes a b o = joined-One rest _ a b (join_at-One nodes (class_at e.left nodes) (class_at e.right nodes) a b o)
+
+-- what the equations list
+terms_of-self : (i : Ident) → Among i (terms_of i)
+terms_of-self (Hole n) = inl refl
+terms_of-self (Module' s (more_of-Unit u end_of-Unit) m) = inl (sym (Module-is s u m))
+
+left-listed : (es : List Equation) (e : Equation) → Among e es → Among e.left (terms_in es)
+left-listed [] e h = absurd h
+left-listed (x ∷ es) e (inl is) = Among-left e.left (terms_of x.left) _ (subst (λ v. Among v.left (terms_of x.left)) is (terms_of-self x.left))
+left-listed (x ∷ es) e (inr h) = Among-right e.left (terms_of x.left) _ (Among-right e.left (terms_of x.right) _ (left-listed es e h))
+
+right-listed : (es : List Equation) (e : Equation) → Among e es → Among e.right (terms_in es)
+right-listed [] e h = absurd h
+right-listed (x ∷ es) e (inl is) = Among-right e.right (terms_of x.left) _ (Among-left e.right (terms_of x.right) _ (subst (λ v. Among v.right (terms_of x.right)) is (terms_of-self x.right)))
+right-listed (x ∷ es) e (inr h) = Among-right e.right (terms_of x.left) _ (Among-right e.right (terms_of x.right) _ (right-listed es e h))
+
+joined-table : (es rest : List Equation) (nodes : List Node) → ((e : Equation) → Among e rest → Among e es) → IsTable es nodes → IsTable es (joined rest nodes)
+joined-table es [] nodes inside t = t
+joined-table es (e ∷ rest) nodes inside t = joined-table es rest _ (λ x h. inside x (inr h)) (join_at-table es nodes e.left e.right _ _ refl refl (Stated e (inside e (inl refl))) t)
+
+joined-stated : (es rest : List Equation) (nodes : List Node) → ((e : Equation) → Among e rest → Among e es) → IsTable es nodes → (e : Equation) → Among e rest → One (joined rest nodes) e.left e.right
+joined-stated es [] nodes inside t e h = absurd h
+joined-stated es (x ∷ rest) nodes inside t e (inl is) =
+    let k = listed-class es nodes t x.left (left-listed es x (inside x (inl refl))) in
+    let l = listed-class es nodes t x.right (right-listed es x (inside x (inl refl))) in
+    subst (λ v. One (joined rest (join_at (class_at x.left nodes) (class_at x.right nodes) nodes)) v.left v.right) is
+    (joined-One rest _ x.left x.right (join_at-joins nodes x.left x.right k.0 l.0 k.1 l.1))
+joined-stated es (x ∷ rest) nodes inside t e (inr h) =
+    joined-stated es rest _ (λ y g. inside y (inr g)) (join_at-table es nodes x.left x.right _ _ refl refl (Stated x (inside x (inl refl))) t) e h
+
+pub joined-all : (es : List Equation) → IsJoined es (joined es (numbered (terms_in es) []))
+joined-all es = record { table = joined-table es es _ (λ e h. h) (first-table es); stated = joined-stated es es _ (λ e h. h) (first-table es) }
+
+-- ---- what is below a term is listed too
+
+mutual
+  below-term : (a : Ident) (u : OfUnit) (m : Text) (i : Ident) → Among (Module u m) (terms_of a) → Among i (terms_in_fills (out-Unit u).fills) → Among i (terms_of a)
+  below-term (Hole n) u m i (inl e) g = absurd (Hole-not-Module n u m e)
+  below-term (Hole n) u m i (inr h) g = absurd h
+  below-term (Module' s (more_of-Unit v end_of-Unit) n) u m i (inl e) g =
+      let is : v ≡ u = Module-unit v u n m e in inr (subst (λ w. Among i (terms_below w)) (sym is) (subst (λ l. Among i l) (sym (terms_below-out u)) g))
+  below-term (Module' s (more_of-Unit v end_of-Unit) n) u m i (inr h) g = inr (below-unit v u m i h g)
+
+  below-unit : (v u : OfUnit) (m : Text) (i : Ident) → Among (Module u m) (terms_below v) → Among i (terms_in_fills (out-Unit u).fills) → Among i (terms_below v)
+  below-unit (Unit' c s r) u m i h g = below-row r u m i h g
+
+  below-row : {k : _} (r : Row_of-Fill k) (u : OfUnit) (m : Text) (i : Ident) → Among (Module u m) (terms_of_row r) → Among i (terms_in_fills (out-Unit u).fills) → Among i (terms_of_row r)
+  below-row end_of-Fill u m i h g = absurd h
+  below-row (more_of-Fill n a r) u m i h g = elim (Among-cases (Module u m) (terms_of a) (terms_of_row r) h) [
+    | inl x ↦ Among-left i (terms_of a) _ (below-term a u m i x g)
+    | inr y ↦ Among-right i (terms_of a) _ (below-row r u m i y g)
+  ]
+
+found-listed : (n : Text) (fs : List Fill) (i : Ident) → found n fs ≡ Some i → Among i (terms_in_fills fs)
+found-listed n [] i e = cc
+found-listed n (f ∷ fs) i e = by (bytes_eq f.hole n) e (found-listed n fs i)
+  where
+    by : (b : Bool) → cond b (Some f.ident) (found n fs) ≡ Some i → (found n fs ≡ Some i → Among i (terms_in_fills fs)) → Among i (terms_of f.ident ++ terms_in_fills fs)
+    by true d k = Among-left i (terms_of f.ident) _ (subst (λ v. Among v (terms_of f.ident)) (Some-same f.ident i d) (terms_of-self f.ident))
+    by false d k = Among-right i (terms_of f.ident) _ (k d)
+
+pub fill-listed : (es : List Equation) (u : OfUnit) (m n : Text) (i : Ident) → Among (Module u m) (terms_in es) → found n (out-Unit u).fills ≡ Some i → Among i (terms_in es)
+fill-listed [] u m n i h e = absurd h
+fill-listed (x ∷ es) u m n i h e =
+    let g = found-listed n (out-Unit u).fills i e in
+    elim (Among-cases (Module u m) (terms_of x.left) _ h) [
+      | inl a ↦ Among-left i (terms_of x.left) _ (below-term x.left u m i a g)
+      | inr r ↦ Among-right i (terms_of x.left) _ (elim (Among-cases (Module u m) (terms_of x.right) _ r) [
+        | inl b ↦ Among-left i (terms_of x.right) _ (below-term x.right u m i b g)
+        | inr c ↦ Among-right i (terms_of x.right) _ (fill-listed es u m n i c e)
+      ])
+    ]

@@ -1,0 +1,7 @@
+use Rattle.std.proofs.Common.{◌≡◌, ◌++◌, [], map, drop}
+use Rattle.std.specs.Prelude.{None}
+use Rattle.hole_unify.specs.Reach.{holds}
+use Rattle.hole_unify.proofs.reach.has_class.Given as goal
+
+abbrev pub invariant-loop-each : goal.invariant-loop-each
+invariant-loop-each l = holds l.class (drop l.each-index l.classes) ≡ holds l.class l.classes

@@ -1,0 +1,11 @@
+pub mod Unifiers
+pub mod Classes
+pub mod Causes
+pub mod Laws
+pub mod Table
+pub mod Tables
+pub mod Close
+pub mod Reach
+pub mod Build
+pub mod Stands
+pub mod Solve

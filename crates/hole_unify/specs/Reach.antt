@@ -1,0 +1,85 @@
+-- Which classes a class reaches through fills.
+use Rattle.std.specs.Prelude.{◌≡◌, ℕ, Bool, true, false, ◌&&◌, ◌||◌, not, List, [], ◌∷◌, ◌++◌, Option, Some, None, if◌then◌else◌, nat_eq, map}
+use Rattle.std.specs.Ordering.{nat_cmp}
+use Rattle.std.specs.Cmp.Lexicographic.{slice_cmp}
+use Rattle.std.specs.declared.cmp.Ordering.{Ordering}
+use Rattle.std.specs.declared.cmp.Ordering.TheVariants.{Less, Equal, Greater}
+use Rattle.bp_base.specs.Texts.{Text}
+use Rattle.bp_base.specs.declared.ident.Ident.{Ident}
+use Rattle.bp_base.specs.declared.ident.Ident.TheVariants.{Hole, Module'}
+use Rattle.bp_base.specs.declared.ident.Unit.{Unit as OfUnit, out-Unit}
+use Rattle.bp_base.specs.declared.ident.Fill.{Fill}
+use Rattle.bp_base.specs.declared.ident.Ident.TheBlock.{Row_of-Unit, end_of-Unit, more_of-Unit}
+use Rattle.unit_identity.specs.Fill.{found}
+use Rattle.hole_unify.specs.declared.table.Node.{Node}
+use Rattle.hole_unify.specs.declared.reach.Edge.{Edge}
+use Rattle.hole_unify.specs.Table.{class_at}
+
+abbrev pub class_edge : ℕ → Option ℕ → List Edge
+class_edge from None = []
+class_edge from (Some to) = record { from = from; to = to } ∷ []
+
+abbrev pub fill_edge : List Node → ℕ → Option Ident → List Edge
+fill_edge nodes from None = []
+fill_edge nodes from (Some i) = class_edge from (class_at i nodes)
+
+abbrev pub fills_edges : List Node → ℕ → List Fill → List Fill → List Edge
+fills_edges nodes from all [] = []
+fills_edges nodes from all (f ∷ rest) = fill_edge nodes from (found f.hole all) ++ fills_edges nodes from all rest
+
+abbrev pub term_edges : List Node → ℕ → Ident → List Edge
+term_edges nodes from (Hole n) = []
+term_edges nodes from (Module' s (more_of-Unit u end_of-Unit) m) = fills_edges nodes from (out-Unit u).fills (out-Unit u).fills
+
+-- from the class of each module to those of its fills
+abbrev pub edges_of : List Node → List Node → List Edge
+edges_of nodes [] = []
+edges_of nodes (x ∷ rest) = term_edges nodes x.class x.ident ++ edges_of nodes rest
+
+abbrev pub holds : ℕ → List ℕ → Bool
+holds k [] = false
+holds k (n ∷ ns) = nat_eq n k || holds k ns
+
+-- the first class that one step more reaches
+abbrev pub next_reached : ℕ → List ℕ → List Edge → Option ℕ
+next_reached k done [] = None
+next_reached k done (e ∷ es) = if (nat_eq e.from k || holds e.from done) && not (holds e.to done) then Some e.to else next_reached k done es
+
+abbrev pub with_one : List ℕ → Option ℕ → List ℕ
+with_one done None = done
+with_one done (Some n) = done ++ n ∷ []
+
+-- as many steps as there are edges
+abbrev pub reached : ℕ → List Edge → List ℕ → List Edge → List ℕ
+reached k all done [] = done
+reached k all done (e ∷ turns) = reached k all (with_one done (next_reached k done all)) turns
+
+abbrev pub on_cycle : ℕ → List Edge → Bool
+on_cycle k all = holds k (reached k all [] all)
+
+-- the lesser of two names, where there are two
+abbrev pub before : Ordering → Text → Text → Text
+before Less new old = new
+before Equal new old = old
+before Greater new old = old
+
+abbrev pub lesser : Option Text → Option Text → Option Text
+lesser best None = best
+lesser None (Some new) = Some new
+lesser (Some old) (Some new) = Some (before (slice_cmp nat_cmp new old) new old)
+
+-- the least of the names
+abbrev pub least_from : Option Text → List (Option Text) → Option Text
+least_from best [] = best
+least_from best (o ∷ os) = least_from (lesser best o) os
+
+-- the hole of the node, where its class reaches itself
+abbrev pub term_cycle : List Edge → ℕ → Ident → Option Text
+term_cycle all k (Hole n) = if on_cycle k all then Some n else None
+term_cycle all k (Module' s r m) = None
+
+abbrev pub hole_cycle : List Edge → Node → Option Text
+hole_cycle all x = term_cycle all x.class x.ident
+
+abbrev pub least_cycle : List Edge → List Node → Option Text
+least_cycle all nodes = least_from None (map (hole_cycle all) nodes)

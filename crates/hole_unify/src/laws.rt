@@ -1,0 +1,17 @@
+//! Laws of the definitions.
+ghost use Rattle.hole_unify.specs.Laws.{ClashHasNoUnifier, CycleHasNoUnifier, AnswersAreOne};
+
+/// Equations with two different heads in one class have no unifier.
+pub fn clash_has_no_unifier()
+    ensures { ClashHasNoUnifier }
+{}
+
+/// Equations with a hole whose class reaches itself have no unifier.
+pub fn cycle_has_no_unifier()
+    ensures { CycleHasNoUnifier }
+{}
+
+/// There is one answer at most.
+pub fn answers_are_one()
+    ensures { AnswersAreOne }
+{}

@@ -1,0 +1,15 @@
+//! Unification of module identities (Kilpatrick and others, POPL 2014; Yang's thesis, 2017): the most general fills that make the two
+//! sides of each equation one identity, and the exact reason where there are none.
+#![tactic(auto)]
+
+mod build;
+mod close;
+mod equation;
+mod laws;
+mod reach;
+mod solve;
+mod table;
+
+pub use equation::{Equation, Equations, Head, IdentUnifyError};
+pub use laws::{answers_are_one, clash_has_no_unifier, cycle_has_no_unifier};
+pub use solve::unify_idents;
