@@ -1,5 +1,5 @@
 -- The test of the condition on units is sound.
-use Rattle.std.proofs.Common.{◌≡◌, ℕ, suc, ◌+◌, ◌<◌, Bool, true, false, ◌&&◌, ◌||◌, not, cond, List, [], ◌∷◌, ◌++◌, length, get_or, drop, map, inl, inr, refl, ap, sym, ◌∙◌, subst, rules, append_assoc, arith}
+use Rattle.std.proofs.Common.{◌≡◌, ℕ, suc, ◌+◌, ◌<◌, Bool, true, false, ◌&&◌, ◌||◌, not, List, [], ◌∷◌, ◌++◌, length, get_or, drop, map, inl, inr, refl, ap, sym, ◌∙◌, subst, append_assoc, arith}
 use Rattle.std.specs.Prelude.{IsTrue}
 use Rattle.std.specs.Str.{bytes_eq}
 use Rattle.std.specs.Ordering.{nat_cmp}
@@ -8,17 +8,17 @@ use Rattle.std.specs.declared.cmp.Ordering.{Ordering}
 use Rattle.std.specs.declared.cmp.Ordering.TheVariants.{Less, Equal, Greater}
 use Rattle.std.proofs.Math.Seq.{drop-cons}
 use Rattle.bp_base.specs.declared.ident.Ident.{Ident}
-use Rattle.bp_base.specs.declared.ident.Ident.TheVariants.{Hole, Module, Module'}
+use Rattle.bp_base.specs.declared.ident.Ident.TheVariants.{Module}
 use Rattle.bp_base.specs.declared.ident.Unit.{Unit as OfUnit, Unit', out-Unit}
 use Rattle.bp_base.specs.declared.ident.Fill.{Fill}
-use Rattle.bp_base.specs.declared.ident.Ident.TheBlock.{hidden-the_row-Unit-0, shown-the_row-Fill-1, Row_of-Unit, end_of-Unit, more_of-Unit, Row_of-Fill, end_of-Fill, more_of-Fill}
+use Rattle.bp_base.specs.declared.ident.Ident.TheBlock.{hidden-the_row-Unit-0, shown-the_row-Fill-1, Row_of-Fill, end_of-Fill, more_of-Fill}
 use Rattle.bp_base.specs.Lists.{Among}
 use Rattle.bp_base.specs.Texts.{Text, Before, Rise, RiseAfter}
 use Rattle.bp_base.proofs.Texts.{same_texts, texts_same}
 use Rattle.hole_unify.specs.declared.equation.Equation.{Equation}
 use Rattle.hole_unify.specs.Causes.{IsLawful, units_of, units_below, units_of_row, units_in, holes_of}
 use Rattle.hole_tests.specs.Lawful.{units_in_fills, is_less, same_holes, rise_after, rises, agree, agrees_with, all_agree}
-use mathlib.Core.Former.{list_count, this, none_left, one_more}
+use mathlib.Core.Former.{list_count, this, none_left}
 use denote.Hole.Carrier.{hidden, out, shown}
 
 -- ---- listing
