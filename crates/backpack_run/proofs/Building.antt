@@ -1,6 +1,7 @@
 -- Values and the tokens that they are read from.
-use Rattle.std.proofs.Common.{refl, sym, ap, ◌∙◌, subst, ◌≡◌, ◌≢◌, inl, inr, ℕ, zero, suc, ◌<◌, Bool, true, false, not, ◌||◌, Option, Some, None, List, [], ◌∷◌, ◌++◌, map, codes, IsTrue, length, get_or, arith}
+use Rattle.std.proofs.Common.{refl, sym, ap, ◌∙◌, subst, ◌≡◌, ◌≢◌, inl, inr, ℕ, zero, suc, ◌+◌, ◌<◌, Bool, true, false, not, ◌||◌, Option, Some, None, List, [], ◌∷◌, ◌++◌, map, codes, IsTrue, length, get_or, take, arith}
 use Rattle.std.specs.List.{list_all}
+use Rattle.std.proofs.lemmas.List.{map-append, map_more}
 use Rattle.bp_base.specs.Lists.{AreDistinct, IsOnly, SoFar}
 use Rattle.bp_base.proofs.Reading.{SoFar-step, SoFar-end, SoFar-none}
 use Rattle.bp_base.proofs.Texts.{same_texts}
@@ -60,6 +61,11 @@ atom_is_no_end args word atom h = first (is_text word (codes ";")) refl
         let s : word ≡ codes ";" = same_texts word (codes ";") e in
         absurd (cc (ap (atom_of args) s, h, semicolon_is_no_atom args))
     first false e = second (is_text word (codes "}")) refl
+
+-- one more word, and its atom
+pub one_more_atom : (f : List ℕ → Option Atom) (words : Tokens) (i : ℕ) (word : List ℕ) (atom : Atom) (atoms new : List Atom) → i < length words → word ≡ get_or words i word
+    → f word ≡ Some atom → map f (take i words) ≡ map Some atoms → new ≡ atoms ++ atom ∷ [] → map f (take (i + 1) words) ≡ map Some new
+one_more_atom f words i word atom atoms new h e a m n = cc (map_more f words i word h, e, a, m, n, map-append Some atoms (atom ∷ []))
 
 pub atoms_no_end : (args words : Tokens) (atoms : List Atom) → map (atom_of args) words ≡ map Some atoms → list_all is_no_end words ≡ true
 atoms_no_end args [] atoms h = refl

@@ -14,6 +14,5 @@ pub mod Refusals
 pub mod Runs
 pub mod Sets
 pub mod Shaping
-pub mod Sorted
 pub mod Tables
 pub mod Types

@@ -9,7 +9,8 @@ use Rattle.bp_base.specs.Lists.{AreDistinct}
 use Rattle.bp_base.proofs.Texts.{same_texts}
 use Rattle.backpack_run.specs.Characters.{is_lower, is_upper, is_digit, is_word_char, is_blank, is_text, is_module_name, is_variable_name}
 use Rattle.backpack_run.specs.Lexical.{skip_blanks}
-use Rattle.backpack_run.specs.Source.{value_after, number_of, arrows_then, is_among, atom_of, LeadsBinding, LeadsItem, AreItems, Spells}
+use Rattle.bp_base.specs.Lists.{is_among}
+use Rattle.backpack_run.specs.Source.{value_after, number_of, arrows_then, atom_of, LeadsBinding, LeadsItem, AreItems, Spells}
 use Rattle.backpack_run.specs.ReadBack.{is_flat_char, starts_flat, is_flat_symbol, LexesFlat, export_tokens, flat_tokens, after_front, plain_token, ReadsBack}
 use Rattle.backpack_run.proofs.Building.{item_shape, first_item}
 use Rattle.backpack_run.proofs.OneReading.{one_reading}

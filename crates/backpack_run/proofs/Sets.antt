@@ -9,9 +9,9 @@ use Rattle.std.proofs.lemmas.Cmp.{nat_list_cmp_total}
 use Rattle.std.specs.BTreeSet.{BTreeSet, contains}
 use Rattle.std.proofs.lemmas.List.{take-append-drop, drop_more, take_more}
 use Rattle.std.proofs.lemmas.List.Folds.{list_any_more}
-use Rattle.bp_base.specs.Lists.{Among, AreDistinct}
-use Rattle.bp_base.proofs.Texts.{same_texts, other_texts, texts_same, tied_texts, not_before_itself}
-use Rattle.backpack_run.specs.Source.{is_among}
+use Rattle.bp_base.specs.Lists.{Among, AreDistinct, is_among}
+use Rattle.bp_base.proofs.Texts.{same_texts, other_texts, tied_texts, not_before_itself}
+use Rattle.bp_base.proofs.Sets.{is_among-there, there-is_among, distinct-push, distinct-twice}
 use Rattle.backpack_run.specs.Shape.{Holds}
 
 -- the test by the order is the test by the bytes
@@ -31,50 +31,6 @@ tied_same a b = by_cases (slice_cmp nat_cmp a b) refl (bytes_eq b a) refl
         let s : b ≡ a = same_texts b a f in
         let q : slice_cmp nat_cmp a a ≡ Greater = ap (slice_cmp nat_cmp a) (sym s) ∙ e in
         absurd (not_before_itself a (nat_list_cmp_total.antisymm a a ∙ ap ordering_reverse q))
-
-pub is_among-there : (name : List ℕ) (names : List (List ℕ)) → is_among name names ≡ true → Among name names
-is_among-there name [] e = absurd (cc e)
-is_among-there name (x ∷ xs) e = by_cases (bytes_eq name x) refl (is_among-there name xs)
-  where
-    by_cases : (t : Bool) → bytes_eq name x ≡ t → (is_among name xs ≡ true → Among name xs) → Among name (x ∷ xs)
-    by_cases true f more = inl (sym (same_texts name x f))
-    by_cases false f more = inr (more (rw f at e))
-
-pub there-is_among : (name : List ℕ) (names : List (List ℕ)) → Among name names → is_among name names ≡ true
-there-is_among name [] h = absurd h
-there-is_among name (x ∷ xs) (inl e) = rw e (ap (λ (t : Bool). t || is_among name xs) (texts_same name))
-there-is_among name (x ∷ xs) (inr h) = by_cases (bytes_eq name x) refl (there-is_among name xs h)
-  where
-    by_cases : (t : Bool) → bytes_eq name x ≡ t → is_among name xs ≡ true → is_among name (x ∷ xs) ≡ true
-    by_cases true f more = rw f refl
-    by_cases false f more = rw f more
-
-pub among-front : {A : Type 0} (a x : A) (xs ys : List A) → Among a xs → Among a (xs ++ ys)
-among-front a x [] ys h = absurd h
-among-front a x (z ∷ zs) ys (inl e) = inl e
-among-front a x (z ∷ zs) ys (inr h) = inr (among-front a x zs ys h)
-
-pub among-middle : {A : Type 0} (x : A) (xs ys : List A) → Among x (xs ++ x ∷ ys)
-among-middle x [] ys = inl refl
-among-middle x (z ∷ zs) ys = inr (among-middle x zs ys)
-
-among-push : {A : Type 0} (a x : A) (xs : List A) → Among a (xs ++ x ∷ []) → Among a xs ⊎ (x ≡ a)
-among-push a x [] (inl e) = inr e
-among-push a x [] (inr h) = absurd h
-among-push a x (z ∷ zs) (inl e) = inl (inl e)
-among-push a x (z ∷ zs) (inr h) = elim (among-push a x zs h) [ inl k ↦ inl (inr k) | inr e ↦ inr e ]
-
--- one more that was not there
-pub distinct-push : {A : Type 0} (xs : List A) (x : A) → AreDistinct xs → (Among x xs → ⊥) → AreDistinct (xs ++ x ∷ [])
-distinct-push [] x d n = (λ h. h, d)
-distinct-push (z ∷ zs) x d n =
-    (λ h. elim (among-push z x zs h) [ inl k ↦ d.0 k | inr e ↦ n (inl (sym e)) ], distinct-push zs x d.1 (λ h. n (inr h)))
-
--- what stands before stands twice
-pub distinct-twice : {A : Type 0} (xs ys : List A) (x : A) → Among x xs → AreDistinct (xs ++ x ∷ ys) → ⊥
-distinct-twice [] ys x h d = absurd h
-distinct-twice (z ∷ zs) ys x (inl e) d = d.0 (subst (λ (y : _). Among y (zs ++ x ∷ ys)) (sym e) (among-middle x zs ys))
-distinct-twice (z ∷ zs) ys x (inr h) d = distinct-twice zs ys x h d.1
 
 -- names before the one at a place, and the one
 pub split_at : (xs : List (List ℕ)) (i : ℕ) (x : List ℕ) → i < length xs → x ≡ get_or xs i x → xs ≡ take i xs ++ x ∷ drop (i + 1) xs

@@ -5,7 +5,7 @@ use Rattle.std.specs.Option.{option_map}
 use Rattle.std.proofs.lemmas.Bool.Decides.{nat_tests}
 use Rattle.std.proofs.lemmas.List.{take-append-drop, take_more, drop_more, length-take-le}
 use Rattle.backpack_run.specs.Characters.{is_text}
-use Rattle.backpack_run.specs.Source.{is_among}
+use Rattle.bp_base.specs.Lists.{is_among}
 use Rattle.backpack_run.specs.Typing.{Plain, integer, function, Entry, type_in, declared_type, entries_of, AtomHas, Applies, AtomsHave, ClauseHas, IsTyped, AreTyped, IsFirstIll}
 use Rattle.backpack_run.specs.Arities.{arrows_in, atom_arrows, is_no_arrow, is_integer, head_fits, atoms_fit, fits}
 use Rattle.hs_core.specs.declared.plain.Atom.{Atom}

@@ -5,7 +5,7 @@ use Rattle.std.specs.Ordering.{nat_cmp}
 use Rattle.std.specs.Cmp.Lexicographic.{slice_cmp}
 use Rattle.std.specs.BTreeMap.{BTreeMap, get}
 use Rattle.backpack_run.specs.Characters.{is_text}
-use Rattle.backpack_run.specs.Source.{is_among}
+use Rattle.bp_base.specs.Lists.{is_among}
 use Rattle.hs_core.specs.declared.plain.Atom.{Atom}
 use Rattle.hs_core.specs.declared.plain.Atom.TheVariants.{Number, Argument, Declared}
 use Rattle.hs_core.specs.declared.plain.Binding.{Binding}

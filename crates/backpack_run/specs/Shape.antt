@@ -4,9 +4,9 @@ use Rattle.std.specs.List.{list_all}
 use Rattle.std.specs.Ordering.{nat_cmp}
 use Rattle.std.specs.Cmp.Lexicographic.{slice_cmp}
 use Rattle.std.specs.BTreeSet.{BTreeSet, contains}
-use Rattle.bp_base.specs.Lists.{AreDistinct}
+use Rattle.bp_base.specs.Lists.{AreDistinct, is_among}
 use Rattle.backpack_run.specs.Characters.{is_text, is_variable_name}
-use Rattle.backpack_run.specs.Source.{LeadsType, is_among, atom_of}
+use Rattle.backpack_run.specs.Source.{LeadsType, atom_of}
 use Rattle.hs_core.specs.declared.plain.Binding.{Binding}
 
 -- how many items pass the test before the first one that does not

@@ -1,7 +1,7 @@
 //! Whether the values of a plain module have their declared types.
 ghost use Rattle.std.specs.Prelude.{◌≡◌, ◌↔◌, ◌+◌, ◌≤◌, ℕ, List, length, IfOk, IsTrue, MatchResult};
 ghost use Rattle.std.specs.List.{list_all};
-ghost use Rattle.backpack_run.specs.Source.{is_among};
+ghost use Rattle.bp_base.specs.Lists.{is_among};
 ghost use Rattle.backpack_run.specs.Typing.{entries_of, IsTyped, AreTyped, IsFirstIll, OnIll, checked_before};
 ghost use Rattle.backpack_run.specs.Arities.{HoldsArrows, atom_arrows, is_integer, atoms_fit, fits};
 ghost use Rattle.hs_core.specs.declared.plain.Binding.{Binding};

@@ -1,5 +1,5 @@
 use Rattle.std.proofs.Common.{◌≡◌, drop}
-use Rattle.backpack_run.specs.Source.{is_among}
+use Rattle.bp_base.specs.Lists.{is_among}
 use Rattle.backpack_run.proofs.typing.is_among.Given as goal
 
 abbrev pub invariant-loop-other : goal.invariant-loop-other
