@@ -2,12 +2,15 @@
 //! spell, or the least index at which they can spell none.
 #![tactic(auto)]
 
+mod kinds;
 mod leaf;
 mod limit;
+mod parse_kinds;
 mod parse_types;
 mod tuple_name;
 mod types;
 
+pub use parse_kinds::{one_kind, parse_kind};
 pub use parse_types::{one_type, parse_type};
 
 #[cfg(test)]

@@ -9,8 +9,10 @@ use std::test::Fail;
 fn kind_of(word: &[u8]) -> TokenKind {
     match word {
         b"->" | b"<-" | b":" | b"@" | b"~" | b"_" | b"=" => TokenKind::Reserved,
-        b"(" | b")" | b"," | b"[" | b"]" | b"`" => TokenKind::Special,
+        b"(" | b")" | b"," | b"[" | b"]" | b"`" | b"{" | b";" => TokenKind::Special,
         b"M.x" => TokenKind::Var,
+        b"M.+" => TokenKind::VarSym,
+        b"M.:+" => TokenKind::ConSym,
         [b'A'..=b'Z', ..] => TokenKind::Con,
         [b'a'..=b'z', ..] => TokenKind::Var,
         [b'0'..=b'9', ..] => TokenKind::Integer,
@@ -107,6 +109,49 @@ fn types_and_their_refusals(rt: HostRuntime) -> Result<(), Fail> {
         let tokens = nested(alloc, times, front, middle, back)?;
         assert_eq!(rt;
             answer_of(parse_type(alloc, &tokens)),
+            want,
+            "at {times} of {front}"
+        );
+    }
+    Ok(())
+}
+
+#[test]
+fn kinds_and_their_refusals(rt: HostRuntime) -> Result<(), Fail> {
+    let alloc = rt.alloc();
+    for (text, want) in [
+        ("*", Answer::Tree),
+        ("* -> *", Answer::Tree),
+        ("( * -> * ) -> * -> *", Answer::Tree),
+        ("( ( * ) )", Answer::Tree),
+        ("", Answer::Syntax(0)),
+        ("->", Answer::Syntax(0)),
+        ("+", Answer::Syntax(0)),
+        ("a", Answer::Syntax(0)),
+        ("( )", Answer::Syntax(1)),
+        ("( *", Answer::Syntax(2)),
+        ("( * *", Answer::Syntax(2)),
+        ("* ->", Answer::Syntax(2)),
+        ("* *", Answer::Syntax(1)),
+        ("* )", Answer::Syntax(1)),
+        ("* -> ( * -> * ]", Answer::Syntax(6)),
+    ] {
+        let tokens = nested(alloc, 1, text, "", "")?;
+        assert_eq!(rt; answer_of(parse_kind(alloc, &tokens)), want, "at {text}");
+    }
+    for (times, front, middle, back, want) in [
+        (200, "(", "*", ")", Answer::Tree),
+        (201, "(", "*", ")", Answer::Deep(200)),
+        (200, "(", "", "", Answer::Syntax(200)),
+        (201, "( +", "*", ")", Answer::Syntax(1)),
+        (200, "* ->", "*", "", Answer::Tree),
+        (201, "* ->", "*", "", Answer::Deep(401)),
+        (100, "* -> (", "*", ")", Answer::Tree),
+        (101, "* -> (", "*", ")", Answer::Deep(301)),
+    ] {
+        let tokens = nested(alloc, times, front, middle, back)?;
+        assert_eq!(rt;
+            answer_of(parse_kind(alloc, &tokens)),
             want,
             "at {times} of {front}"
         );
