@@ -3,5 +3,8 @@ pub mod Walks
 pub mod Ending
 pub mod Reading
 pub mod Texts
+pub mod Sets
+pub mod Sorted
 pub mod Idents
 pub mod Holes
+mod Commas

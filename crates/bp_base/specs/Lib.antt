@@ -6,3 +6,4 @@ pub mod Texts
 pub mod Entities
 pub mod Holes
 pub mod Names
+pub mod Specials

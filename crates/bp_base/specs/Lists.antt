@@ -1,10 +1,16 @@
 -- Items of lists, and the only thing that a fact holds of.
-use Rattle.std.specs.Prelude.{◌≡◌, ◌⊎◌, List, [], ◌∷◌, ◌++◌}
+use Rattle.std.specs.Prelude.{◌≡◌, ◌⊎◌, ℕ, Bool, List, [], ◌∷◌, ◌++◌}
+use Rattle.std.specs.List.{list_any}
+use Rattle.std.specs.Str.{bytes_eq}
 
 -- the item stands in the list
 abbrev pub Among : {A : Type 0} → A → List A → Type 0
 Among a [] = ⊥
 Among a (x ∷ xs) = (x ≡ a) ⊎ Among a xs
+
+-- the name is one of these: the test
+abbrev pub is_among : List ℕ → List (List ℕ) → Bool
+is_among name names = list_any (bytes_eq name) names
 
 -- no item stands twice
 abbrev pub AreDistinct : {A : Type 0} → List A → Type 0

@@ -9,6 +9,7 @@ mod hole;
 mod ident;
 mod linking;
 mod names;
+mod special;
 mod steps;
 mod text;
 mod ty;
@@ -28,6 +29,7 @@ pub use linking::{
     copied_provisions, copied_renames,
 };
 pub use names::{is_component_name, is_module_name, is_package_name};
+pub use special::{Special, base_prelude, special_name, special_of, special_text};
 pub use steps::Steps;
 pub use text::{Bytes, Name, Names, Path, compare};
 pub use ty::{

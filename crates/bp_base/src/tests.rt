@@ -182,3 +182,51 @@ fn names_have_their_forms(rt: HostRuntime) {
         assert!(rt; is_module_name(text) == module);
     }
 }
+
+#[test]
+fn special_names_have_their_texts(rt: HostRuntime) -> Result<(), Fail> {
+    let alloc = rt.alloc();
+    let both: [(Special, &[u8]); 5] = [
+        (Special::List, b"[]"),
+        (Special::Unit, b"()"),
+        (Special::Tuple { parts: 2 }, b"(,)"),
+        (Special::Tuple { parts: 3 }, b"(,,)"),
+        (Special::Tuple { parts: 15 }, b"(,,,,,,,,,,,,,,)"),
+    ];
+    for (special, text) in both.iter() {
+        assert!(rt; special_text(alloc, *special)?.as_bytes() == *text);
+        assert!(rt; special_of(Space::Types, text) == Some(*special));
+        assert!(rt; special_of(Space::Values, text) == Some(*special));
+    }
+    assert!(rt; special_of(Space::Types, b"->") == Some(Special::Arrow));
+    assert!(rt; special_of(Space::Values, b"->") == None);
+    assert!(rt; special_of(Space::Values, b":") == Some(Special::Cons));
+    assert!(rt; special_of(Space::Types, b":") == None);
+    let others: [&[u8]; 7] = [
+        b"",
+        b"(",
+        b"(,",
+        b"[ ]",
+        b"(,,,,,,,,,,,,,,,)",
+        b"()x",
+        b"Int",
+    ];
+    for text in others.iter() {
+        assert!(rt; special_of(Space::Types, text) == None);
+        assert!(rt; special_of(Space::Values, text) == None);
+    }
+    let pair = special_name(alloc, Space::Values, Special::Tuple { parts: 2 })?;
+    assert!(rt; pair.occ.as_bytes() == b"(,)".as_slice());
+    assert!(rt; pair.space == Space::Values);
+    let prelude = base_prelude(alloc)?;
+    assert!(rt; same_ident(&pair.at, &prelude));
+    let at_prelude = match &prelude {
+        Ident::Module { unit, module } => {
+            unit.get().component.as_bytes() == b"base".as_slice()
+                && module.as_bytes() == b"Prelude".as_slice()
+        }
+        Ident::Hole { .. } => false,
+    };
+    assert!(rt; at_prelude);
+    Ok(())
+}
