@@ -9,8 +9,10 @@ use std::test::Fail;
 fn kind_of(word: &[u8]) -> TokenKind {
     match word {
         b"->" | b"<-" | b":" | b"@" | b"~" | b"_" | b"=" => TokenKind::Reserved,
-        b"(" | b")" | b"," | b"[" | b"]" | b"`" => TokenKind::Special,
+        b"(" | b")" | b"," | b"[" | b"]" | b"`" | b"{" | b";" => TokenKind::Special,
         b"M.x" => TokenKind::Var,
+        b"M.+" => TokenKind::VarSym,
+        b"M.:+" => TokenKind::ConSym,
         [b'A'..=b'Z', ..] => TokenKind::Con,
         [b'a'..=b'z', ..] => TokenKind::Var,
         [b'0'..=b'9', ..] => TokenKind::Integer,
@@ -114,6 +116,164 @@ fn types_and_their_refusals(rt: HostRuntime) -> Result<(), Fail> {
     Ok(())
 }
 
+#[test]
+fn kinds_and_their_refusals(rt: HostRuntime) -> Result<(), Fail> {
+    let alloc = rt.alloc();
+    for (text, want) in [
+        ("*", Answer::Tree),
+        ("* -> *", Answer::Tree),
+        ("( * -> * ) -> * -> *", Answer::Tree),
+        ("( ( * ) )", Answer::Tree),
+        ("", Answer::Syntax(0)),
+        ("->", Answer::Syntax(0)),
+        ("+", Answer::Syntax(0)),
+        ("a", Answer::Syntax(0)),
+        ("( )", Answer::Syntax(1)),
+        ("( *", Answer::Syntax(2)),
+        ("( * *", Answer::Syntax(2)),
+        ("* ->", Answer::Syntax(2)),
+        ("* *", Answer::Syntax(1)),
+        ("* )", Answer::Syntax(1)),
+        ("* -> ( * -> * ]", Answer::Syntax(6)),
+    ] {
+        let tokens = nested(alloc, 1, text, "", "")?;
+        assert_eq!(rt; answer_of(parse_kind(alloc, &tokens)), want, "at {text}");
+    }
+    for (times, front, middle, back, want) in [
+        (200, "(", "*", ")", Answer::Tree),
+        (201, "(", "*", ")", Answer::Deep(200)),
+        (200, "(", "", "", Answer::Syntax(200)),
+        (201, "( +", "*", ")", Answer::Syntax(1)),
+        (200, "* ->", "*", "", Answer::Tree),
+        (201, "* ->", "*", "", Answer::Deep(401)),
+        (100, "* -> (", "*", ")", Answer::Tree),
+        (101, "* -> (", "*", ")", Answer::Deep(301)),
+    ] {
+        let tokens = nested(alloc, times, front, middle, back)?;
+        assert_eq!(rt;
+            answer_of(parse_kind(alloc, &tokens)),
+            want,
+            "at {times} of {front}"
+        );
+    }
+    Ok(())
+}
+
+#[test]
+fn patterns_and_their_refusals(rt: HostRuntime) -> Result<(), Fail> {
+    let alloc = rt.alloc();
+    for (text, want) in [
+        ("x : xs", Answer::Tree),
+        ("->", Answer::Syntax(0)),
+        ("", Answer::Syntax(0)),
+        ("_", Answer::Tree),
+        ("'a'", Answer::Tree),
+        ("M.C x ( y , z ) [ 1 ] \"s\"", Answer::Tree),
+        ("C", Answer::Tree),
+        ("x y", Answer::Syntax(1)),
+        ("x @ C y", Answer::Syntax(3)),
+        ("C x @ y z", Answer::Tree),
+        ("x @ ~ ( C y )", Answer::Tree),
+        ("x @ y @ _", Answer::Tree),
+        ("C @ x", Answer::Syntax(1)),
+        ("_ @ x", Answer::Syntax(1)),
+        ("x @", Answer::Syntax(2)),
+        ("x @ - 1", Answer::Syntax(2)),
+        ("~", Answer::Syntax(1)),
+        ("~ - 1", Answer::Syntax(1)),
+        ("- 1", Answer::Tree),
+        ("- 1 : - 2 :+ x", Answer::Tree),
+        ("- x", Answer::Syntax(1)),
+        ("-", Answer::Syntax(1)),
+        ("- 1 x", Answer::Syntax(2)),
+        ("C - 1", Answer::Syntax(1)),
+        ("+ 1", Answer::Syntax(0)),
+        ("( - 1 )", Answer::Tree),
+        ("( - )", Answer::Tree),
+        ("( - x", Answer::Syntax(2)),
+        ("( -", Answer::Syntax(2)),
+        ("( + ) @ x", Answer::Tree),
+        ("( + x", Answer::Syntax(2)),
+        ("( + 1", Answer::Syntax(2)),
+        ("( M.+ )", Answer::Syntax(1)),
+        ("( )", Answer::Tree),
+        ("( ) x", Answer::Tree),
+        ("( ,", Answer::Syntax(2)),
+        ("( , ) x y", Answer::Tree),
+        ("( , x", Answer::Syntax(2)),
+        ("( :+ ) x y", Answer::Tree),
+        ("( :+ x", Answer::Syntax(2)),
+        ("( M.:+ )", Answer::Tree),
+        ("( : ) x y", Answer::Tree),
+        ("( : x", Answer::Syntax(2)),
+        ("(", Answer::Syntax(1)),
+        ("( x", Answer::Syntax(2)),
+        ("( x ,", Answer::Syntax(3)),
+        ("( x , )", Answer::Syntax(3)),
+        ("( x ]", Answer::Syntax(2)),
+        ("( x , y ) z", Answer::Syntax(5)),
+        ("[ ]", Answer::Tree),
+        ("[ ] x", Answer::Tree),
+        ("[ x , y , - 1 ]", Answer::Tree),
+        ("[", Answer::Syntax(1)),
+        ("[ x", Answer::Syntax(2)),
+        ("[ x , ]", Answer::Syntax(3)),
+        ("[ x )", Answer::Syntax(2)),
+        ("x ` M.C ` y : z", Answer::Tree),
+        ("x ` y", Answer::Syntax(2)),
+        ("x ` C y", Answer::Syntax(3)),
+        ("x `", Answer::Syntax(2)),
+        ("x :", Answer::Syntax(2)),
+        ("x : : y", Answer::Syntax(2)),
+        ("x )", Answer::Syntax(1)),
+        ("x <- y", Answer::Syntax(1)),
+        ("M.x", Answer::Syntax(0)),
+        ("{", Answer::Syntax(0)),
+    ] {
+        let tokens = nested(alloc, 1, text, "", "")?;
+        assert_eq!(rt; answer_of(parse_pat(alloc, &tokens)), want, "at {text}");
+    }
+    Ok(())
+}
+
+#[test]
+fn patterns_are_200_deep(rt: HostRuntime) -> Result<(), Fail> {
+    let alloc = rt.alloc();
+    for (times, front, middle, back, want) in [
+        (200, "(", "x", ")", Answer::Tree),
+        (201, "(", "x", ")", Answer::Deep(201)),
+        (201, "(", "", "", Answer::Syntax(201)),
+        (201, "(", ")", "", Answer::Syntax(202)),
+        (200, "(", "( )", ")", Answer::Tree),
+        (200, "(", "- 1", ")", Answer::Tree),
+        (201, "(", "- 1", ")", Answer::Deep(202)),
+        (201, "(", "- x", "", Answer::Syntax(202)),
+        (200, "( _ , ", "x", ")", Answer::Tree),
+        (200, "[", "x", "]", Answer::Tree),
+        (201, "[", "x", "]", Answer::Deep(201)),
+        (201, "[", "]", "", Answer::Syntax(202)),
+        (200, "a @", "x", "", Answer::Tree),
+        (201, "a @", "x", "", Answer::Deep(401)),
+        (200, "~", "x", "", Answer::Tree),
+        (201, "~", "x", "", Answer::Deep(200)),
+        (200, "x :", "x", "", Answer::Tree),
+        (201, "x :", "x", "", Answer::Deep(401)),
+        (200, "x :+", "- 1", "", Answer::Tree),
+        (201, "x ` C `", "x", "", Answer::Deep(801)),
+        (100, "x : (", "x", ")", Answer::Tree),
+        (101, "x : (", "x", ")", Answer::Deep(301)),
+        (201, "C", "", "", Answer::Tree),
+    ] {
+        let tokens = nested(alloc, times, front, middle, back)?;
+        assert_eq!(rt;
+            answer_of(parse_pat(alloc, &tokens)),
+            want,
+            "at {times} of {front}"
+        );
+    }
+    Ok(())
+}
+
 /// A list in round brackets with so many commas.
 fn tuple(alloc: Global, commas: usize) -> Result<Tokens, AllocError> {
     let mut all = Items::new(alloc);
@@ -139,6 +299,39 @@ fn tuples_have_at_most_15_parts(rt: HostRuntime) -> Result<(), Fail> {
             want,
             "a type of {commas}"
         );
+        assert_eq!(rt;
+            answer_of(parse_pat(alloc, &tokens)),
+            want,
+            "a pattern of {commas}"
+        );
     }
+    Ok(())
+}
+
+#[test]
+fn names_of_tuples_and_long_lists(rt: HostRuntime) -> Result<(), Fail> {
+    let alloc = rt.alloc();
+    for (front, times, middle, want) in [
+        ("(", 14, ")", Answer::Tree),
+        ("(", 15, ")", Answer::Syntax(15)),
+        ("( x", 0, ")", Answer::Tree),
+    ] {
+        let mut tokens = nested(alloc, 1, front, "", "")?;
+        for _ in 0..times {
+            push_words(alloc, &mut tokens, ",")?;
+        }
+        push_words(alloc, &mut tokens, middle)?;
+        assert_eq!(rt;
+            answer_of(parse_pat(alloc, &tokens)),
+            want,
+            "a name of {times}"
+        );
+    }
+    let mut list = nested(alloc, 1, "[ x", "", "")?;
+    for _ in 0..40 {
+        push_words(alloc, &mut list, ", x")?;
+    }
+    push_words(alloc, &mut list, "]")?;
+    assert_eq!(rt; answer_of(parse_pat(alloc, &list)), Answer::Tree);
     Ok(())
 }

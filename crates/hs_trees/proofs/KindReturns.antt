@@ -50,7 +50,7 @@ star_spelled = ap spelling_akind (sym a.rolls-Star) ∙ akind_spelled AKindTree-
 star_deep : depth_of_akind a.Star ≡ 0
 star_deep = ap depth_of_akind (sym a.rolls-Star) ∙ akind_deep AKindTree-F.Star
 
-parens_spelled : (k : KindTree) → spelling_akind (a.Parens k) ≡ t.LeftParen ∷ (spelling_kind k ++ t.RightParen ∷ [])
+pub parens_spelled : (k : KindTree) → spelling_akind (a.Parens k) ≡ t.LeftParen ∷ (spelling_kind k ++ t.RightParen ∷ [])
 parens_spelled k = ap spelling_akind (sym (a.rolls-Parens k)) ∙ akind_spelled (AKindTree-F.Parens k)
 
 parens_deep : (k : KindTree) → depth_of_akind (a.Parens k) ≡ depth_of_kind k + 1
@@ -73,7 +73,7 @@ akind_starts_layer : (x : ALayer) → begins starts_akind (akind_tokens (map-AKi
 akind_starts_layer AKindTree-F.Star = star_is
 akind_starts_layer (AKindTree-F.Parens k) = refl
 
-akind_starts : (x : AKindTree) → begins starts_akind (spelling_akind x) ≡ true
+pub akind_starts : (x : AKindTree) → begins starts_akind (spelling_akind x) ≡ true
 akind_starts x =
     subst (λ y. begins starts_akind (spelling_akind y) ≡ true) (roll-out-AKindTree x)
     (ap (begins starts_akind) (akind_spelled (out-AKindTree x)) ∙ akind_starts_layer (out-AKindTree x))
@@ -196,7 +196,7 @@ module _ (limit : Option ℕ) where
   abbrev pub round : Form Terminal KindTree
   round = closed (kind_form (lowered limit 1)) t.RightParen
 
-  parens_leads : Within limit 1 → Leads (akind_form limit) (t.LeftParen ∷ []) round a.Parens
+  pub parens_leads : Within limit 1 → Leads (akind_form limit) (t.LeftParen ∷ []) round a.Parens
   parens_leads one = record {
     tokens = parens_spelled;
     good = λ k g. subst (Within limit) (sym (parens_deep k)) (within_raised limit (depth_of_kind k) 1 one g);

@@ -22,3 +22,4 @@ pub mod PatternReturns
 pub mod PatternUnique
 pub mod PatternHits
 pub mod KindReturns
+pub mod KindUnique

@@ -1,4 +1,4 @@
-use Rattle.std.proofs.Common.{◌≡◌, ℕ, ap, sym, arith, None, refl}
+use Rattle.std.proofs.Common.{None, refl}
 use Rattle.hs_trees.specs.Types.{type_form}
 use Rattle.hs_trees.proofs.Whole.{begun_ok, begun_err_at}
 use Rattle.haskell_parse.proofs.parse_types.begins_type.Goals as goal

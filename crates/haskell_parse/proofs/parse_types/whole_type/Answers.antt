@@ -1,4 +1,3 @@
-use Rattle.std.proofs.Common.{◌≡◌, ℕ, ◌<◌, ap, sym, arith}
 use Rattle.std.proofs.lemmas.Result.{err_from_is_err_and}
 use Rattle.hs_trees.specs.Types.{type_form, depth_of_type}
 use Rattle.hs_trees.proofs.Whole.{whole_of_fails, whole_of_rest, some_length}

@@ -1,4 +1,4 @@
-use Rattle.std.proofs.Common.{◌≡◌, ℕ, ◌++◌, ◌∙◌, [], ◌∷◌, refl, sym, ap, subst, arith, append_assoc}
+use Rattle.std.proofs.Common.{◌++◌, ◌∙◌, [], refl, ap, arith}
 use Rattle.std.specs.Prelude.{replicate}
 use Rattle.hs_trees.specs.Reading.{begins}
 use Rattle.hs_trees.specs.Terminals.{is_comma}

@@ -1,4 +1,4 @@
-use Rattle.std.proofs.Common.{ℕ, ◌+◌, ◌*◌, length}
+use Rattle.std.proofs.Common.{◌+◌, ◌*◌, length}
 use Rattle.hs_trees.proofs.TypeReturns.{BtypeState, TypeState, PartsState}
 use Rattle.haskell_parse.proofs.types.+types.Given as goal
 
