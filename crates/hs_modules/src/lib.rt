@@ -10,6 +10,7 @@ mod measure_patterns;
 mod measure_types;
 mod module;
 mod names;
+mod parts;
 
 pub use declarations::{
     ConstrSide, ConstrTree, Field, Fixity, SigBlock, SigDeclTree, SigSlot, TopBlock, TopDeclTree,
@@ -25,6 +26,10 @@ pub use module::{
     CNameTree, ExportTree, ExportsTree, ImpDeclTree, ImportList, ItemTree, Module, SubsTree,
 };
 pub use names::{ConOpTree, ConTree, OpTree, QOpTree, QVarTree, VarOpTree};
+pub use parts::{
+    depth_of_decl, depth_of_kind, depth_of_pat, depth_of_type, size_of_decl, size_of_kind,
+    size_of_pat, size_of_type,
+};
 
 #[cfg(test)]
 mod tests;

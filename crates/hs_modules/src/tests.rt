@@ -1,8 +1,8 @@
 use super::*;
 use bp_base::{Bytes, Name, Names};
 use hs_trees::{
-    AKindTree, APatTree, ATypeTree, BTypeTree, GConTree, KindTree, LPatTree, LiteralTree, PatTree,
-    TypeTree, VarTree,
+    AKindTree, APatTree, ATypeTree, BTypeTree, GConTree, KindTree, LPatTree, LiteralTree, OpLPat,
+    PatTree, QConOpTree, TypeTree, VarTree,
 };
 use sqlite_items::{Boxed, Items};
 use std::alloc::{AllocError, Global};
@@ -379,5 +379,33 @@ fn a_long_list(rt: HostRuntime) -> Result<(), Fail> {
     }
     let list = AExpTree::List(Boxed::new(alloc, small(alloc)?)?, parts);
     assert_eq!(rt; aexp_measured(alloc, list)?, (4 + 4 * 10_001, 1));
+    Ok(())
+}
+
+#[test]
+fn parts_of_modules(rt: HostRuntime) -> Result<(), Fail> {
+    let alloc = rt.alloc();
+    let ty = arrow(alloc)?;
+    assert_eq!(rt; (size_of_type(&ty), depth_of_type(&ty)), (5, 1));
+    // a : -1
+    let mut rest = Items::new(alloc);
+    rest.push(OpLPat {
+        op: QConOpTree::Colon,
+        pat: LPatTree::Negative(Bytes::from_bytes(alloc, b"1")?),
+    })?;
+    let pat = PatTree {
+        first: LPatTree::APat(apat(alloc)?),
+        rest,
+    };
+    assert_eq!(rt; (size_of_pat(&pat), depth_of_pat(&pat)), (4, 1));
+    let mut rest = Items::new(alloc);
+    rest.push(AKindTree::Star)?;
+    let kind = KindTree {
+        first: AKindTree::Star,
+        rest,
+    };
+    assert_eq!(rt; (size_of_kind(&kind), depth_of_kind(&kind)), (4, 1));
+    let decl = DeclTree::Pattern(pattern(alloc)?, rhs(small(alloc)?));
+    assert_eq!(rt; (size_of_decl(&decl), depth_of_decl(&decl)), (9, 0));
     Ok(())
 }
