@@ -1,0 +1,6 @@
+pub mod ExpressionMeasures
+pub mod Folding
+pub mod Measuring
+pub mod ModuleMeasures
+pub mod PatternMeasures
+pub mod TypeMeasures

@@ -1,0 +1,7 @@
+use Rattle.std.proofs.Common.{◌≡◌, take}
+use Rattle.hs_modules.specs.Measures.{all_measured}
+use Rattle.hs_modules.specs.Measured.{measure_of_constr}
+use Rattle.hs_modules.proofs.measure_modules.measure_constrs.Given as goal
+
+abbrev pub invariant-loop-each : goal.invariant-loop-each
+invariant-loop-each l = l.total ≡ all_measured measure_of_constr (take l.each-index l.trees)

@@ -1,0 +1,10 @@
+pub mod Depths
+pub mod Folds
+pub mod Formed
+pub mod Measured
+pub mod Measures
+pub mod ModuleTokens
+pub mod Modules
+pub mod Sizes
+pub mod Tokens
+pub mod Words
