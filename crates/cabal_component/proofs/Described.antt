@@ -4,7 +4,7 @@ use Rattle.std.specs.List.{prefix_len, filter_map}
 use Rattle.std.proofs.lemmas.List.{take_rest}
 use Rattle.cabal_text.specs.declared.lines.Line.{Line}
 use Rattle.cabal_text.specs.Lines.{Block, blocks, deeper_than}
-use Rattle.cabal_component.proofs.Blocked.{block}
+use Rattle.cabal_stanzas.proofs.Blocked.{block}
 use Rattle.cabal_component.proofs.Refused.{block_here}
 
 map_here : {X : Type 0} (F : Block → Option X) (b : Block) (bs : List Block) (x : X) → F b ≡ Some x → filter_map F (b ∷ bs) ≡ x ∷ filter_map F bs

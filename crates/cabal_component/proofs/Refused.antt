@@ -7,7 +7,7 @@ use Rattle.cabal_text.specs.declared.lines.Line.{Line}
 use Rattle.cabal_text.specs.Least.{sooner, least_of}
 use Rattle.cabal_text.specs.Lines.{blocks, deeper_than}
 use Rattle.cabal_component.specs.Package.{block_refused}
-use Rattle.cabal_component.proofs.Blocked.{block}
+use Rattle.cabal_stanzas.proofs.Blocked.{block}
 use Rattle.cabal_text.proofs.Sooner.{sooner_assoc, item_next_least}
 
 deep_more : (l : Line) (ls : List Line) → 0 < l.indent → map (λ x. x.number) (deeper_than 0 (l ∷ ls)) ≡ l.number ∷ map (λ x. x.number) (deeper_than 0 ls)

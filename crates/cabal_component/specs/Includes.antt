@@ -19,9 +19,9 @@ or_whole dep [] = whole dep ∷ []
 or_whole dep (m ∷ ms) = m ∷ ms
 
 -- a dependency is included once for each of its entries, and once, whole, where it has none
-abbrev pub included : List Mixin → List ℕ → List Mixin
-included mixins dep = or_whole dep (entries_for dep mixins)
+abbrev pub included : (List ℕ → List Mixin) → List ℕ → List Mixin
+included entries dep = or_whole dep (entries dep)
 
 -- what a component includes, by dependency and then by entry
 abbrev pub includes_of : Component → List Mixin
-includes_of c = flat_map (included c.mixins) c.deps
+includes_of c = flat_map (included (λ dep. entries_for dep c.mixins)) c.deps

@@ -1,10 +1,6 @@
-pub mod Folder
-pub mod Project
-pub mod Stanzas
-pub mod Heads
-pub mod Values
 pub mod Entries
 pub mod Package
 pub mod Reading
 pub mod Includes
 pub mod Lawful
+pub mod Tables

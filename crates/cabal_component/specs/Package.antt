@@ -6,16 +6,16 @@ use Rattle.cabal_text.specs.Lines.{Block, blocks, deeper_than}
 use Rattle.cabal_text.specs.Fields.{field_of, is_word}
 use Rattle.cabal_text.specs.Tokens.{tokens_of}
 use Rattle.cabal_text.specs.Names.{renames_of, module_names}
-use Rattle.cabal_text.specs.Seen.{is_among}
-use Rattle.cabal_component.specs.declared.stanzas.Field.{Field}
-use Rattle.cabal_component.specs.declared.heads.Head.{Head}
-use Rattle.cabal_component.specs.declared.heads.Head.TheVariants.{Library, Executable, Common, Ignored, Other}
+use Rattle.bp_base.specs.Lists.{is_among}
+use Rattle.cabal_stanzas.specs.declared.stanzas.Field.{Field}
+use Rattle.cabal_stanzas.specs.declared.heads.Head.{Head}
+use Rattle.cabal_stanzas.specs.declared.heads.Head.TheVariants.{Library, Executable, Common, Ignored, Other}
 use Rattle.cabal_component.specs.declared.package.Listing.{Listing}
-use Rattle.cabal_component.specs.Folder.{folders_of}
-use Rattle.cabal_component.specs.Project.{shallow_lines}
-use Rattle.cabal_component.specs.Stanzas.{fields_at, odd_lines, indent_in, repeated}
-use Rattle.cabal_component.specs.Heads.{refused_names, head_of}
-use Rattle.cabal_component.specs.Values.{ranged_names, source_name}
+use Rattle.cabal_stanzas.specs.Folder.{folders_of}
+use Rattle.cabal_stanzas.specs.Project.{shallow_lines}
+use Rattle.cabal_stanzas.specs.Stanzas.{fields_at, odd_lines, indent_in, repeated}
+use Rattle.cabal_stanzas.specs.Heads.{refused_names, head_of}
+use Rattle.cabal_stanzas.specs.Values.{ranged_names, source_name}
 use Rattle.cabal_component.specs.Entries.{mixins_of}
 
 -- what was read, or nothing

@@ -1,8 +1,8 @@
 //! Components, and what they mix in.
 ghost use Rattle.std.specs.Prelude.{◌≡◌, IfOk};
 
-use crate::folder::{Paths, copied_paths};
 use bp_base::{Name, Names, Path, Renames, copied_names, copied_renames};
+use cabal_stanzas::folder::{Paths, copied_paths};
 use sqlite_items::Items;
 use std::alloc::{AllocError, Global};
 

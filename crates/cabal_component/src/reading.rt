@@ -1,25 +1,28 @@
 //! The components of a package file.
 ghost use Rattle.std.specs.Prelude.{◌≡◌, [], List, ℕ, Option, IfOk, MatchResult, map, codes};
+ghost use Rattle.std.specs.HashSet.{contains};
+ghost use Rattle.std.specs.Str.{bytes_eq};
 ghost use Rattle.cabal_text.specs.Lines.{Block, kept_lines};
 ghost use Rattle.cabal_component.specs.Package.{or_none, package_refused};
-ghost use Rattle.cabal_component.specs.Reading.{head_words, part_if, part_at, own_libraries, resolved, resolved_mixin, mixins_in, listed_in, deps_in, or_here, folders_in, names_named, renames_in, main_in, library_with, executable_with, component_in, components_in, components_of, NamesLeast};
+ghost use Rattle.cabal_component.specs.Reading.{head_words, part_if, part_at, own_libraries, resolved, resolved_mixin, mixins_in, listed_in, deps_of, or_here, folders_in, names_named, renames_in, main_in, library_with, executable_with, component_in, components_in, components_of, NamesLeast};
 ghost use Rattle.cabal_component.specs.declared.reading.ComponentError.TheVariants.{ComponentSyntax, NoMemory};
 
 use crate::component::{Component, Components, Mixin, Mixins};
 use crate::entries::mixins_of;
-use crate::folder::{Paths, folders_of};
-use crate::heads::{Head, component_name, head_of, library_name, named, package_of};
 use crate::package::{names_in, refused_line};
-use crate::stanzas::{Field, fields_at, indent_in, value_named};
-use crate::values::{ranged_names, source_name};
 use bp_base::{Bytes, Name, Names, Path, Renames};
+use cabal_stanzas::folder::{Paths, folders_of};
+use cabal_stanzas::heads::{Head, component_name, head_of, library_name, named, package_of};
+use cabal_stanzas::stanzas::{Field, fields_at, indent_in, value_named};
+use cabal_stanzas::values::{ranged_names, source_name};
 use cabal_text::fields::field_of;
 use cabal_text::lines::{Line, deeper_len, kept_lines};
 use cabal_text::names::renames_of;
-use cabal_text::seen::{distinct, is_among};
+use cabal_text::seen::{distinct, name_set};
 use cabal_text::tokens::tokens_of;
 use sqlite_items::Items;
 use std::alloc::{AllocError, Global};
+use std::collections::HashSet;
 
 /// Why a package file is refused.
 #[derive(Clone, Copy, Debug, PartialEq, Eq)]
@@ -88,10 +91,15 @@ fn own_libraries(alloc: Global, lines: &[Line]) -> Result<Names, AllocError>
 }
 
 /// The component that a name means.
-fn resolved(alloc: Global, owner: &Name, own: &Names, name: &Name) -> Result<Name, AllocError>
-    ensures { IfOk result (λ found. found ≡ resolved owner.now own.now name.now) }
+fn resolved(
+    alloc: Global,
+    owner: &Name,
+    own: &HashSet<Name>,
+    name: &Name,
+) -> Result<Name, AllocError>
+    ensures { IfOk result (λ found. found ≡ resolved owner.now (contains bytes_eq own.now) name.now) }
 {
-    if is_among(name.as_bytes(), own.as_slice()) {
+    if own.contains(name) {
         library_name(alloc, owner.as_bytes(), name.as_bytes())
     } else {
         name.copied(alloc)
@@ -102,10 +110,10 @@ fn resolved(alloc: Global, owner: &Name, own: &Names, name: &Name) -> Result<Nam
 fn all_resolved(
     alloc: Global,
     owner: &Name,
-    own: &Names,
+    own: &HashSet<Name>,
     names: &[Name],
 ) -> Result<Names, AllocError>
-    ensures { IfOk result (λ all. all ≡ map (resolved owner.now own.now) names.now) }
+    ensures { IfOk result (λ all. all ≡ map (resolved owner.now (contains bytes_eq own.now)) names.now) }
 {
     let mut all = Items::new(alloc);
     for name in names {
@@ -118,10 +126,10 @@ fn all_resolved(
 fn resolved_mixin(
     alloc: Global,
     owner: &Name,
-    own: &Names,
+    own: &HashSet<Name>,
     mixin: &Mixin,
 ) -> Result<Mixin, AllocError>
-    ensures { IfOk result (λ found. found ≡ resolved_mixin owner.now own.now mixin.now) }
+    ensures { IfOk result (λ found. found ≡ resolved_mixin owner.now (contains bytes_eq own.now) mixin.now) }
 {
     let mut found = mixin.copied(alloc)?;
     found.dep = resolved(alloc, owner, own, &mixin.dep)?;
@@ -132,10 +140,10 @@ fn resolved_mixin(
 fn all_mixins(
     alloc: Global,
     owner: &Name,
-    own: &Names,
+    own: &HashSet<Name>,
     mixins: &[Mixin],
 ) -> Result<Mixins, AllocError>
-    ensures { IfOk result (λ all. all ≡ map (resolved_mixin owner.now own.now) mixins.now) }
+    ensures { IfOk result (λ all. all ≡ map (resolved_mixin owner.now (contains bytes_eq own.now)) mixins.now) }
 {
     let mut all = Items::new(alloc);
     for mixin in mixins {
@@ -148,10 +156,10 @@ fn all_mixins(
 fn mixins_in(
     alloc: Global,
     owner: &Name,
-    own: &Names,
+    own: &HashSet<Name>,
     fields: &[Field],
 ) -> Result<Mixins, AllocError>
-    ensures { IfOk result (λ mixins. mixins ≡ mixins_in owner.now own.now fields.now) }
+    ensures { IfOk result (λ mixins. mixins ≡ mixins_in owner.now (contains bytes_eq own.now) fields.now) }
 {
     match mixins_of(alloc, value_named(b"mixins", fields))? {
         Some(mixins) => all_mixins(alloc, owner, own, mixins.as_slice()),
@@ -163,10 +171,10 @@ fn mixins_in(
 fn listed_in(
     alloc: Global,
     owner: &Name,
-    own: &Names,
+    own: &HashSet<Name>,
     fields: &[Field],
 ) -> Result<Names, AllocError>
-    ensures { IfOk result (λ names. names ≡ listed_in owner.now own.now fields.now) }
+    ensures { IfOk result (λ names. names ≡ listed_in owner.now (contains bytes_eq own.now) fields.now) }
 {
     match ranged_names(alloc, value_named(b"build-depends", fields))? {
         Some(names) => all_resolved(alloc, owner, own, names.as_slice()),
@@ -185,13 +193,12 @@ fn mixed_in(alloc: Global, mixins: &[Mixin]) -> Result<Names, AllocError>
     Ok(names)
 }
 
-/// Each dependency once, at its first place; those that stand in `mixins` alone are last.
-fn deps_in(alloc: Global, owner: &Name, own: &Names, fields: &[Field]) -> Result<Names, AllocError>
-    ensures { IfOk result (λ deps. deps ≡ deps_in owner.now own.now fields.now) }
+/// Each dependency once, at its first place; those that stand in these entries alone are last.
+fn deps_of(alloc: Global, listed: Names, mixins: &[Mixin]) -> Result<Names, AllocError>
+    ensures { IfOk result (λ deps. deps ≡ deps_of listed mixins.now) }
 {
-    let mixins = mixins_in(alloc, owner, own, fields)?;
-    let mut names = listed_in(alloc, owner, own, fields)?;
-    names.append(mixed_in(alloc, mixins.as_slice())?)?;
+    let mut names = listed;
+    names.append(mixed_in(alloc, mixins)?)?;
     distinct(alloc, names.as_slice())
 }
 
@@ -249,12 +256,14 @@ fn library_with(
     alloc: Global,
     file: &Path,
     owner: &Name,
-    own: &Names,
+    own: &HashSet<Name>,
     name: Name,
     fields: &[Field],
 ) -> Result<Component, AllocError>
-    ensures { IfOk result (λ component. component ≡ library_with file.now owner.now own.now name fields.now) }
+    ensures { IfOk result (λ component. component ≡ library_with file.now owner.now (contains bytes_eq own.now) name fields.now) }
 {
+    let mixins = mixins_in(alloc, owner, own, fields)?;
+    let listed = listed_in(alloc, owner, own, fields)?;
     Ok(Component {
         name,
         executable: false,
@@ -263,8 +272,8 @@ fn library_with(
         main_is: Path::from_bytes(alloc, b"")?,
         signatures: names_named(alloc, b"signatures", fields)?,
         reexports: renames_in(alloc, fields)?,
-        deps: deps_in(alloc, owner, own, fields)?,
-        mixins: mixins_in(alloc, owner, own, fields)?,
+        deps: deps_of(alloc, listed, mixins.as_slice())?,
+        mixins,
         dirs: folders_in(alloc, fields)?,
         file: file.copied(alloc)?,
     })
@@ -275,12 +284,14 @@ fn executable_with(
     alloc: Global,
     file: &Path,
     owner: &Name,
-    own: &Names,
+    own: &HashSet<Name>,
     name: Name,
     fields: &[Field],
 ) -> Result<Component, AllocError>
-    ensures { IfOk result (λ component. component ≡ executable_with file.now owner.now own.now name fields.now) }
+    ensures { IfOk result (λ component. component ≡ executable_with file.now owner.now (contains bytes_eq own.now) name fields.now) }
 {
+    let mixins = mixins_in(alloc, owner, own, fields)?;
+    let listed = listed_in(alloc, owner, own, fields)?;
     Ok(Component {
         name,
         executable: true,
@@ -289,8 +300,8 @@ fn executable_with(
         main_is: main_in(alloc, fields)?,
         signatures: Items::new(alloc),
         reexports: Items::new(alloc),
-        deps: deps_in(alloc, owner, own, fields)?,
-        mixins: mixins_in(alloc, owner, own, fields)?,
+        deps: deps_of(alloc, listed, mixins.as_slice())?,
+        mixins,
         dirs: folders_in(alloc, fields)?,
         file: file.copied(alloc)?,
     })
@@ -301,11 +312,11 @@ fn component_in(
     alloc: Global,
     file: &Path,
     owner: &Name,
-    own: &Names,
+    own: &HashSet<Name>,
     line: &Line,
     deeper: &[Line],
 ) -> Result<Option<Component>, AllocError>
-    ensures { IfOk result (λ found. found ≡ component_in file.now owner.now own.now (record { line = line.now; deeper = deeper.now })) }
+    ensures { IfOk result (λ found. found ≡ component_in file.now owner.now (contains bytes_eq own.now) (record { line = line.now; deeper = deeper.now })) }
 {
     let words = head_words(alloc, line)?;
     let fields = fields_at(alloc, indent_in(deeper), deeper)?;
@@ -327,10 +338,10 @@ fn components_in(
     alloc: Global,
     file: &Path,
     owner: &Name,
-    own: &Names,
+    own: &HashSet<Name>,
     lines: &[Line],
 ) -> Result<Components, AllocError>
-    ensures { IfOk result (λ all. all ≡ components_in file.now owner.now own.now lines.now) }
+    ensures { IfOk result (λ all. all ≡ components_in file.now owner.now (contains bytes_eq own.now) lines.now) }
 {
     let mut all = Items::new(alloc);
     let mut rest = lines;
@@ -358,7 +369,8 @@ fn components_of(alloc: Global, file: &Path, lines: &[Line]) -> Result<Component
 {
     let fields = fields_at(alloc, 0, lines)?;
     let owner = package_of(alloc, &fields)?;
-    let own = own_libraries(alloc, lines)?;
+    let names = own_libraries(alloc, lines)?;
+    let own = name_set(alloc, names.as_slice())?;
     components_in(alloc, file, &owner, &own, lines)
 }
 

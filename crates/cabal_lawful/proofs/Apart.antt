@@ -4,8 +4,10 @@ use Rattle.std.specs.Str.{bytes_eq}
 use Rattle.std.proofs.lemmas.List.Folds.{list_any-append}
 use Rattle.bp_base.specs.Lists.{Among, AreDistinct}
 use Rattle.bp_base.specs.Texts.{Text}
+use Rattle.bp_base.proofs.Sets.{among-right}
 use Rattle.bp_base.proofs.Texts.{same_texts, texts_same}
-use Rattle.cabal_text.specs.Seen.{is_among, repeats_after, new_after, distinct}
+use Rattle.bp_base.specs.Lists.{is_among}
+use Rattle.cabal_text.specs.Seen.{repeats_after, new_after, distinct}
 
 pub none_first : (a b : Bool) → (a || b) ≡ false → a ≡ false
 none_first true b e = e
@@ -14,19 +16,6 @@ none_first false b e = refl
 pub none_later : (a b : Bool) → (a || b) ≡ false → b ≡ false
 none_later true b e = absurd (cc)
 none_later false b e = e
-
-or_true : (a : Bool) → (a || true) ≡ true
-or_true true = refl
-or_true false = refl
-
--- a name that is among others passes the test
-pub among_is : (a : Text) (ns : List Text) → Among a ns → is_among a ns ≡ true
-among_is a [] h = absurd h
-among_is a (n ∷ ns) (inl e) = rw (e, texts_same a) refl
-among_is a (n ∷ ns) (inr h) = rw (among_is a ns h) (or_true (bytes_eq a n))
-
-pub not_among : (a : Text) (ns : List Text) → is_among a ns ≡ false → Among a ns → ⊥
-not_among a ns e h = let t : is_among a ns ≡ true = among_is a ns h in cc
 
 pub is_at_end : (seen : List Text) (n a : Text) → is_among a (seen ++ n ∷ []) ≡ (is_among a seen || (bytes_eq a n || false))
 is_at_end seen n a = list_any-append (bytes_eq a) seen (n ∷ [])
@@ -79,15 +68,6 @@ pub new_fresh : (seen ns : List Text) → IsFresh seen (new_after seen ns)
 new_fresh seen [] = fresh_nil seen
 new_fresh seen (n ∷ ns) = new_step seen n (new_after (seen ++ n ∷ []) ns) (is_among n seen) refl (new_fresh (seen ++ n ∷ []) ns)
 
-pub among_right : {A : Type 0} (a : A) (xs ys : List A) → Among a ys → Among a (xs ++ ys)
-among_right a [] ys h = h
-among_right a (x ∷ xs) ys h = inr (among_right a xs ys h)
-
-pub among_left : {A : Type 0} (a : A) (xs ys : List A) → Among a xs → Among a (xs ++ ys)
-among_left a [] ys h = absurd h
-among_left a (x ∷ xs) ys (inl e) = inl e
-among_left a (x ∷ xs) ys (inr h) = inr (among_left a xs ys h)
-
 kept_first : (seen : List Text) (n : Text) (rest : List Text) (r : Bool) → is_among n seen ≡ r
     → (is_among n seen ≡ true) ⊎ Among n (cond r [] (n ∷ []) ++ rest)
 kept_first seen n rest true e = inl e
@@ -110,7 +90,7 @@ kept_seen seen n a rest (inr e) = kept_at seen n a rest e
 kept_later : (seen : List Text) (n a : Text) (rest : List Text) → (is_among a (seen ++ n ∷ []) ≡ true) ⊎ Among a rest
     → (is_among a seen ≡ true) ⊎ Among a (cond (is_among n seen) [] (n ∷ []) ++ rest)
 kept_later seen n a rest (inl t) = kept_seen seen n a rest (seen_or seen n a (is_among a seen) refl t)
-kept_later seen n a rest (inr h) = inr (among_right a (cond (is_among n seen) [] (n ∷ [])) rest h)
+kept_later seen n a rest (inr h) = inr (among-right a (cond (is_among n seen) [] (n ∷ [])) rest h)
 
 -- each name is kept once
 pub new_keeps : (seen ns : List Text) (a : Text) → Among a ns → (is_among a seen ≡ true) ⊎ Among a (new_after seen ns)

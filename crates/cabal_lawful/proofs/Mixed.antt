@@ -104,12 +104,12 @@ or_none_ok P (Some xs) f = f xs refl
 mixins_ok : (value : Text) → AllByRecursion IsLawfulEntry (or_none (mixins_of value))
 mixins_ok value = or_none_ok IsLawfulEntry (mixins_of value) (λ xs e. each_all entry_of IsLawfulEntry entry_ok _ xs e)
 
-resolved_ok : (owner : Text) (own : List Text) (ms : List Mixin) → AllByRecursion IsLawfulEntry ms → AllByRecursion IsLawfulEntry (map (resolved_mixin owner own) ms)
+resolved_ok : (owner : Text) (own : Text → Bool) (ms : List Mixin) → AllByRecursion IsLawfulEntry ms → AllByRecursion IsLawfulEntry (map (resolved_mixin owner own) ms)
 resolved_ok owner own [] h = tt
 resolved_ok owner own (m ∷ ms) h = (record { news = h.0.news; olds = h.0.olds }, resolved_ok owner own ms h.1)
 
 -- the entries of a value, resolved
-pub all_ok : (owner : Text) (own : List Text) (value : Text) → AllByRecursion IsLawfulEntry (map (resolved_mixin owner own) (or_none (mixins_of value)))
+pub all_ok : (owner : Text) (own : Text → Bool) (value : Text) → AllByRecursion IsLawfulEntry (map (resolved_mixin owner own) (or_none (mixins_of value)))
 all_ok owner own value = resolved_ok owner own (or_none (mixins_of value)) (mixins_ok value)
 
 -- each entry is of a dependency

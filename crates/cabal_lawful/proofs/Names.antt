@@ -6,13 +6,14 @@ use Rattle.bp_base.specs.Texts.{Text}
 use Rattle.bp_base.proofs.Texts.{same_texts}
 use Rattle.cabal_text.specs.Fields.{is_word}
 use Rattle.cabal_text.specs.Names.{module_names}
-use Rattle.cabal_text.specs.Seen.{is_among}
+use Rattle.bp_base.specs.Lists.{is_among}
 use Rattle.cabal_text.proofs.Listed.{items_none}
-use Rattle.cabal_component.specs.declared.stanzas.Field.{Field}
+use Rattle.cabal_stanzas.specs.declared.stanzas.Field.{Field}
 use Rattle.cabal_component.specs.declared.package.Listing.{Listing}
 use Rattle.cabal_component.specs.Package.{or_none, lists_own, place, placed_in, placed, twice_after}
 use Rattle.cabal_component.specs.Reading.{names_named}
-use Rattle.cabal_lawful.proofs.Apart.{IsFresh, fresh_nil, fresh_more, among_left, among_right}
+use Rattle.bp_base.proofs.Sets.{among-left, among-right, distinct-left, distinct-right, distinct-cross}
+use Rattle.cabal_lawful.proofs.Apart.{IsFresh, fresh_nil, fresh_more}
 
 abbrev pub listed : List Listing → List Text
 listed ps = map (λ (p : Listing). p.name) ps
@@ -27,37 +28,6 @@ twice_step seen p ps false e t h = fresh_more seen p.name (listed ps) e (h t)
 pub twice_none : (seen : List Text) (ps : List Listing) → twice_after seen ps ≡ [] → IsFresh seen (listed ps)
 twice_none seen [] e = fresh_nil seen
 twice_none seen (p ∷ ps) e = twice_step seen p ps (is_among p.name seen) refl e (twice_none (seen ++ p.name ∷ []) ps)
-
-pub distinct_left : {A : Type 0} (xs ys : List A) → AreDistinct (xs ++ ys) → AreDistinct xs
-distinct_left [] ys d = tt
-distinct_left (x ∷ xs) ys d = (λ h. d.0 (among_left x xs ys h), distinct_left xs ys d.1)
-
-pub distinct_right : {A : Type 0} (xs ys : List A) → AreDistinct (xs ++ ys) → AreDistinct ys
-distinct_right [] ys d = d
-distinct_right (x ∷ xs) ys d = distinct_right xs ys d.1
-
-pub distinct_cross : {A : Type 0} (a : A) (xs ys : List A) → AreDistinct (xs ++ ys) → Among a xs → Among a ys → ⊥
-distinct_cross a [] ys d h k = h
-distinct_cross {A} a (x ∷ xs) ys d (inl e) k = d.0 (subst (λ (z : A). Among z (xs ++ ys)) (sym e) (among_right a xs ys k))
-distinct_cross a (x ∷ xs) ys d (inr h) k = distinct_cross a xs ys d.1 h k
-
-among_more : {A : Type 0} (a x : A) (xs ys : List A) → Among a xs ⊎ Among a ys → Among a (x ∷ xs) ⊎ Among a ys
-among_more a x xs ys (inl h) = inl (inr h)
-among_more a x xs ys (inr k) = inr k
-
-pub among_either : {A : Type 0} (a : A) (xs ys : List A) → Among a (xs ++ ys) → Among a xs ⊎ Among a ys
-among_either a [] ys h = inr h
-among_either a (x ∷ xs) ys (inl e) = inl (inl e)
-among_either a (x ∷ xs) ys (inr h) = among_more a x xs ys (among_either a xs ys h)
-
-join_first : {A : Type 0} (x : A) (xs ys : List A) → (Among x xs → ⊥) → (Among x ys → ⊥) → Among x xs ⊎ Among x ys → ⊥
-join_first x xs ys f g (inl h) = f h
-join_first x xs ys f g (inr k) = g k
-
-pub distinct_join : {A : Type 0} (xs ys : List A) → AreDistinct xs → AreDistinct ys → ((a : A) → Among a xs → Among a ys → ⊥) → AreDistinct (xs ++ ys)
-distinct_join [] ys d e f = e
-distinct_join {A} (x ∷ xs) ys d e f =
-    (λ h. join_first x xs ys d.0 (λ k. f x (inl refl) k) (among_either x xs ys h), distinct_join xs ys d.1 e (λ (a : A) h k. f a (inr h) k))
 
 place_names : (line : ℕ) (ns : List Text) → listed (map (place line) ns) ≡ ns
 place_names line [] = refl
@@ -96,9 +66,9 @@ among_step : (executable : Bool) (name a : Text) (f : Field) (fs : List Field) (
 among_step executable name a f fs true o e h m =
     let here : Among a (field_names f) = subst (λ (ns : List Text). Among a ns) (named_here name f fs e) m in
     let own : Among a (listed (placed_in executable f)) = subst (λ (ns : List Text). Among a ns) (sym (owned executable f (o f.name e))) here in
-    among_left a (listed (placed_in executable f)) (listed (placed executable fs)) own
+    among-left a (listed (placed_in executable f)) (listed (placed executable fs)) own
 among_step executable name a f fs false o e h m =
-    among_right a (listed (placed_in executable f)) (listed (placed executable fs)) (h (subst (λ (ns : List Text). Among a ns) (named_later name f fs e) m))
+    among-right a (listed (placed_in executable f)) (listed (placed executable fs)) (h (subst (λ (ns : List Text). Among a ns) (named_later name f fs e) m))
 
 -- what the field of a name lists is among the own names
 pub named_among : (executable : Bool) (name a : Text) → Owns executable name → (fs : List Field) → Among a (names_named name fs) → Among a (listed (placed executable fs))
@@ -110,7 +80,7 @@ named_among executable name a o (f ∷ fs) h =
 distinct_step : (executable : Bool) (name : Text) (f : Field) (fs : List Field) (r : Bool) → Owns executable name → is_word f.name name ≡ r
     → AreDistinct (listed (placed_in executable f) ++ listed (placed executable fs)) → AreDistinct (names_named name fs) → AreDistinct (names_named name (f ∷ fs))
 distinct_step executable name f fs true o e d h =
-    let own = distinct_left (listed (placed_in executable f)) (listed (placed executable fs)) d in
+    let own = distinct-left (listed (placed_in executable f)) (listed (placed executable fs)) d in
     subst (λ (ns : List Text). AreDistinct ns) (owned executable f (o f.name e) ∙ sym (named_here name f fs e)) own
 distinct_step executable name f fs false o e d h = subst (λ (ns : List Text). AreDistinct ns) (sym (named_later name f fs e)) h
 
@@ -120,7 +90,7 @@ named_distinct executable name o [] d = subst (λ (ns : List Text). AreDistinct 
 named_distinct executable name o (f ∷ fs) d =
     let parts = subst (λ (ns : List Text). AreDistinct ns) (placed_more executable f fs) d in
     distinct_step executable name f fs (is_word f.name name) o refl parts
-    (named_distinct executable name o fs (distinct_right (listed (placed_in executable f)) (listed (placed executable fs)) parts))
+    (named_distinct executable name o fs (distinct-right (listed (placed_in executable f)) (listed (placed executable fs)) parts))
 
 -- no text is both words
 abbrev pub AreApart : Text → Text → Type 0
@@ -133,11 +103,11 @@ cross_step executable v w a f fs true true o p q d e c h m n = q f.name d e
 cross_step executable v w a f fs true false o p q d e c h m n =
     let here : Among a (listed (placed_in executable f)) = subst (λ (ns : List Text). Among a ns) (named_here v f fs d ∙ sym (owned executable f (o f.name d))) m in
     let there = named_among executable w a p fs (subst (λ (ns : List Text). Among a ns) (named_later w f fs e) n) in
-    distinct_cross a (listed (placed_in executable f)) (listed (placed executable fs)) c here there
+    distinct-cross a (listed (placed_in executable f)) (listed (placed executable fs)) c here there
 cross_step executable v w a f fs false true o p q d e c h m n =
     let here : Among a (listed (placed_in executable f)) = subst (λ (ns : List Text). Among a ns) (named_here w f fs e ∙ sym (owned executable f (p f.name e))) n in
     let there = named_among executable v a o fs (subst (λ (ns : List Text). Among a ns) (named_later v f fs d) m) in
-    distinct_cross a (listed (placed_in executable f)) (listed (placed executable fs)) c here there
+    distinct-cross a (listed (placed_in executable f)) (listed (placed executable fs)) c here there
 cross_step executable v w a f fs false false o p q d e c h m n =
     h (subst (λ (ns : List Text). Among a ns) (named_later v f fs d) m) (subst (λ (ns : List Text). Among a ns) (named_later w f fs e) n)
 
@@ -148,7 +118,7 @@ named_cross executable v w a o p q [] c m n = subst (λ (ns : List Text). Among 
 named_cross executable v w a o p q (f ∷ fs) c m n =
     let parts = subst (λ (ns : List Text). AreDistinct ns) (placed_more executable f fs) c in
     cross_step executable v w a f fs (is_word f.name v) (is_word f.name w) o p q refl refl parts
-    (named_cross executable v w a o p q fs (distinct_right (listed (placed_in executable f)) (listed (placed executable fs)) parts)) m n
+    (named_cross executable v w a o p q fs (distinct-right (listed (placed_in executable f)) (listed (placed executable fs)) parts)) m n
 
 -- two words that differ in small letters
 pub other_words : (v w : Text) → bytes_eq (str_to_ascii_lowercase v) (str_to_ascii_lowercase w) ≡ false → AreApart v w

@@ -7,20 +7,21 @@ use Rattle.cabal_text.specs.declared.lines.Line.{Line}
 use Rattle.cabal_text.specs.Lines.{Block, blocks, deeper_than}
 use Rattle.cabal_text.specs.Fields.{field_of, is_word}
 use Rattle.cabal_text.specs.Tokens.{tokens_of}
-use Rattle.cabal_text.specs.Seen.{is_among}
-use Rattle.cabal_component.specs.declared.stanzas.Field.{Field}
+use Rattle.bp_base.specs.Lists.{is_among}
+use Rattle.cabal_stanzas.specs.declared.stanzas.Field.{Field}
 use Rattle.cabal_component.specs.declared.component.Component.{Component}
 use Rattle.cabal_component.specs.declared.component.Mixin.{Mixin}
-use Rattle.cabal_component.specs.declared.heads.Head.{Head}
-use Rattle.cabal_component.specs.declared.heads.Head.TheVariants.{Library, Executable, Common, Ignored, Other}
-use Rattle.cabal_component.specs.Stanzas.{fields_at, indent_in, odd_lines, repeated, value_named}
-use Rattle.cabal_component.specs.Heads.{refused_names, head_of, named, package_of, component_name}
-use Rattle.cabal_component.specs.Values.{source_name}
+use Rattle.cabal_stanzas.specs.declared.heads.Head.{Head}
+use Rattle.cabal_stanzas.specs.declared.heads.Head.TheVariants.{Library, Executable, Common, Ignored, Other}
+use Rattle.cabal_stanzas.specs.Stanzas.{fields_at, indent_in, odd_lines, repeated, value_named}
+use Rattle.cabal_stanzas.specs.Heads.{refused_names, head_of, named, package_of, component_name}
+use Rattle.cabal_stanzas.specs.Values.{source_name}
 use Rattle.cabal_component.specs.Package.{is_bad_shared, is_bad_executable, is_bad, placed, twice_lines, main_refused, stanza_refused, block_refused, package_refused}
-use Rattle.cabal_component.specs.Reading.{own_libraries, listed_in, mixins_in, deps_in, names_named, library_with, executable_with, component_if, component_in, components_of}
+use Rattle.cabal_component.specs.Reading.{is_own, listed_in, mixins_in, deps_in, names_named, library_with, executable_with, component_if, component_in, components_of}
 use Rattle.cabal_component.specs.Lawful.{IsLawful, IsLawfulEntry}
-use Rattle.cabal_lawful.proofs.Apart.{none_later, not_among, among_right, distinct_keeps, distinct_apart}
-use Rattle.cabal_lawful.proofs.Names.{listed, field_names, Owns, twice_none, distinct_join, among_either, named_distinct, named_cross, named_here, named_later, none_named, other_words}
+use Rattle.bp_base.proofs.Sets.{not_among, among-right, among-either, distinct-join}
+use Rattle.cabal_lawful.proofs.Apart.{none_later, distinct_keeps, distinct_apart}
+use Rattle.cabal_lawful.proofs.Names.{listed, field_names, Owns, twice_none, named_distinct, named_cross, named_here, named_later, none_named, other_words}
 use Rattle.cabal_lawful.proofs.Mixed.{all_ok, entries_ok}
 
 nil_left : {A : Type 0} (xs ys : List A) → xs ++ ys ≡ [] → xs ≡ []
@@ -59,23 +60,23 @@ library_names fs d =
     let eo = λ (a : Text). named_cross false (codes "exposed-modules") (codes "other-modules") a owns_exposed (owns_other false) (other_words (codes "exposed-modules") (codes "other-modules") refl) fs d in
     let es = λ (a : Text). named_cross false (codes "exposed-modules") (codes "signatures") a owns_exposed owns_signatures (other_words (codes "exposed-modules") (codes "signatures") refl) fs d in
     let os = λ (a : Text). named_cross false (codes "other-modules") (codes "signatures") a (owns_other false) owns_signatures (other_words (codes "other-modules") (codes "signatures") refl) fs d in
-    distinct_join exposed (others ++ signatures) (named_distinct false (codes "exposed-modules") owns_exposed fs d)
-    (distinct_join others signatures (named_distinct false (codes "other-modules") (owns_other false) fs d) (named_distinct false (codes "signatures") owns_signatures fs d) os)
-    (λ a h k. apart_either a exposed others signatures (eo a) (es a) h (among_either a others signatures k))
+    distinct-join exposed (others ++ signatures) (named_distinct false (codes "exposed-modules") owns_exposed fs d)
+    (distinct-join others signatures (named_distinct false (codes "other-modules") (owns_other false) fs d) (named_distinct false (codes "signatures") owns_signatures fs d) os)
+    (λ a h k. apart_either a exposed others signatures (eo a) (es a) h (among-either a others signatures k))
 
-deps_keep : (owner : Text) (own : List Text) (fs : List Field) (a : Text) → Among a (map (λ (m : Mixin). m.dep) (mixins_in owner own fs)) → Among a (deps_in owner own fs)
+deps_keep : (owner : Text) (own : Text → Bool) (fs : List Field) (a : Text) → Among a (map (λ (m : Mixin). m.dep) (mixins_in owner own fs)) → Among a (deps_in owner own fs)
 deps_keep owner own fs a h =
     distinct_keeps (listed_in owner own fs ++ map (λ (m : Mixin). m.dep) (mixins_in owner own fs)) a
-    (among_right a (listed_in owner own fs) (map (λ (m : Mixin). m.dep) (mixins_in owner own fs)) h)
+    (among-right a (listed_in owner own fs) (map (λ (m : Mixin). m.dep) (mixins_in owner own fs)) h)
 
-deps_apart : (owner : Text) (own : List Text) (fs : List Field) → AreDistinct (deps_in owner own fs)
+deps_apart : (owner : Text) (own : Text → Bool) (fs : List Field) → AreDistinct (deps_in owner own fs)
 deps_apart owner own fs = distinct_apart (listed_in owner own fs ++ map (λ (m : Mixin). m.dep) (mixins_in owner own fs))
 
-mixed_ok : (owner : Text) (own : List Text) (fs : List Field) → AllByRecursion (λ (m : Mixin). Among m.dep (deps_in owner own fs) × IsLawfulEntry m) (mixins_in owner own fs)
+mixed_ok : (owner : Text) (own : Text → Bool) (fs : List Field) → AllByRecursion (λ (m : Mixin). Among m.dep (deps_in owner own fs) × IsLawfulEntry m) (mixins_in owner own fs)
 mixed_ok owner own fs =
     entries_ok (deps_in owner own fs) (mixins_in owner own fs) (λ a h. deps_keep owner own fs a h) (all_ok owner own (value_named (codes "mixins") fs))
 
-library_ok : (file owner : Text) (own : List Text) (name : Text) (fs : List Field) → twice_lines (placed false fs) ≡ [] → IsLawful (library_with file owner own name fs)
+library_ok : (file owner : Text) (own : Text → Bool) (name : Text) (fs : List Field) → twice_lines (placed false fs) ≡ [] → IsLawful (library_with file owner own name fs)
 library_ok file owner own name fs t = record {
   own = library_names fs ((twice_none [] (placed false fs) t).distinct);
   deps = deps_apart owner own fs;
@@ -113,7 +114,7 @@ main_apart (f ∷ fs) e =
 executable_names : (ns : List Text) → is_among (codes "Main") ns ≡ false → AreDistinct ns → AreDistinct ((codes "Main" ∷ []) ++ ([] ++ (ns ++ [])))
 executable_names ns e d = subst (λ (ms : List Text). AreDistinct (codes "Main" ∷ ms)) (sym (append-nil ns)) (not_among (codes "Main") ns e, d)
 
-executable_ok : (file owner : Text) (own : List Text) (name : Text) (fs : List Field) → map (λ (g : Field). g.line) (filter (is_bad true) fs) ≡ [] → twice_lines (placed true fs) ≡ []
+executable_ok : (file owner : Text) (own : Text → Bool) (name : Text) (fs : List Field) → map (λ (g : Field). g.line) (filter (is_bad true) fs) ≡ [] → twice_lines (placed true fs) ≡ []
     → IsLawful (executable_with file owner own name fs)
 executable_ok file owner own name fs b t = record {
   own = executable_names (names_named (codes "other-modules") fs) (main_apart fs b)
@@ -124,7 +125,7 @@ executable_ok file owner own name fs b t = record {
   executable = λ e. (refl, refl, refl);
 }
 
-head_step : (file owner : Text) (own : List Text) (h : Head) (name : Text) (l : Line) (deeper : List Line) (c : Component) → stanza_refused h l deeper ≡ []
+head_step : (file owner : Text) (own : Text → Bool) (h : Head) (name : Text) (l : Line) (deeper : List Line) (c : Component) → stanza_refused h l deeper ≡ []
     → component_if file owner own h name (fields_at (indent_in deeper) deeper) ≡ Some c → IsLawful c
 head_step file owner own Library name l deeper c r e =
     let fs = fields_at (indent_in deeper) deeper in
@@ -146,20 +147,20 @@ head_step file owner own Common name l deeper c r e = absurd (cc)
 head_step file owner own Ignored name l deeper c r e = absurd (cc)
 head_step file owner own Other name l deeper c r e = absurd (cc)
 
-block_step : (file owner : Text) (own : List Text) (words : List Text) (l : Line) (deeper : List Line) (c : Component) (r : Bool)
+block_step : (file owner : Text) (own : Text → Bool) (words : List Text) (l : Line) (deeper : List Line) (c : Component) (r : Bool)
     → cond r [] (stanza_refused (head_of words) l deeper) ≡ []
     → component_if file owner own (head_of (cond r [] words)) (named (cond r [] words)) (fields_at (indent_in deeper) deeper) ≡ Some c → IsLawful c
 block_step file owner own words l deeper c true r e = absurd (cc)
 block_step file owner own words l deeper c false r e = head_step file owner own (head_of words) (named words) l deeper c r e
 
-block_ok : (file owner : Text) (own : List Text) (b : Block) (c : Component) → block_refused b ≡ [] → component_in file owner own b ≡ Some c → IsLawful c
+block_ok : (file owner : Text) (own : Text → Bool) (b : Block) (c : Component) → block_refused b ≡ [] → component_in file owner own b ≡ Some c → IsLawful c
 block_ok file owner own b c r e = block_step file owner own (tokens_of b.line.text) b.line b.deeper c (is_some (field_of b.line.text)) r e
 
 some_step : {X : Type 0} (P : X → Type 0) (o : Option X) (xs : List X) → ((x : X) → o ≡ Some x → P x) → AllByRecursion P xs → AllByRecursion P (cons_option o xs)
 some_step P None xs f h = h
 some_step P (Some x) xs f h = (f x refl, h)
 
-blocks_ok : (file owner : Text) (own : List Text) (bs : List Block) → flat_map block_refused bs ≡ [] → AllByRecursion IsLawful (filter_map (component_in file owner own) bs)
+blocks_ok : (file owner : Text) (own : Text → Bool) (bs : List Block) → flat_map block_refused bs ≡ [] → AllByRecursion IsLawful (filter_map (component_in file owner own) bs)
 blocks_ok file owner own [] r = tt
 blocks_ok file owner own (b ∷ bs) r =
     some_step IsLawful (component_in file owner own b) (filter_map (component_in file owner own) bs)
@@ -171,4 +172,4 @@ pub components_ok : (file : Text) (ls : List Line) → package_refused ls ≡ []
 components_ok file ls r =
     let later = nil_right (refused_names (fields_at 0 ls)) (map (λ (l : Line). l.number) (deeper_than 0 ls) ++ flat_map block_refused (blocks 0 ls)) r in
     let all = nil_right (map (λ (l : Line). l.number) (deeper_than 0 ls)) (flat_map block_refused (blocks 0 ls)) later in
-    blocks_ok file (package_of (fields_at 0 ls)) (own_libraries ls) (blocks 0 ls) all
+    blocks_ok file (package_of (fields_at 0 ls)) (is_own ls) (blocks 0 ls) all

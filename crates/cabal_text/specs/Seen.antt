@@ -1,11 +1,6 @@
 -- Names that were seen before.
 use Rattle.std.specs.Prelude.{ℕ, Bool, false, List, [], ◌∷◌, ◌++◌, ◌||◌, if◌then◌else◌}
-use Rattle.std.specs.List.{list_any}
-use Rattle.std.specs.Str.{bytes_eq}
-
--- the name is one of these
-abbrev pub is_among : List ℕ → List (List ℕ) → Bool
-is_among name names = list_any (bytes_eq name) names
+use Rattle.bp_base.specs.Lists.{is_among}
 
 -- some name stands among those that were seen before it
 abbrev pub repeats_after : List (List ℕ) → List (List ℕ) → Bool

@@ -1,81 +1,17 @@
-//! Names of modules, packages and components, and lists of them.
-ghost use Rattle.std.specs.Prelude.{◌≡◌, ◌≤◌, List, ℕ, IfOk, length, not, ◌==◌};
-ghost use Rattle.std.specs.List.{prefix_len, list_all};
-ghost use Rattle.std.specs.Char.{is_ascii_alphanumeric};
-ghost use Rattle.cabal_text.specs.Names.{is_name_char, is_part, is_module_name, is_run, is_package_name, is_dependency, rename, rename_of, renames_of, name_of, names_of, module_name, module_names};
+//! Names of dependencies, and lists of names of modules.
+ghost use Rattle.std.specs.Prelude.{◌≡◌, ◌≤◌, List, ℕ, IfOk, length};
+ghost use Rattle.bp_base.specs.Names.{colon_place, is_module_name, is_package_name};
+ghost use Rattle.cabal_text.specs.Names.{is_dependency, rename, rename_of, renames_of, name_of, names_of, module_name, module_names};
 
 use crate::fields;
 use crate::tokens::{Brackets, next_item, without_comma};
-use bp_base::{Bytes, Name, Names, Rename, Renames};
+use bp_base::{Bytes, Name, Names, Rename, Renames, is_module_name, is_package_name};
 use sqlite_items::Items;
 use std::alloc::{AllocError, Global};
 
-#[tactic(auto, unfolding(crate::specs::Names::is_name_char))]
-fn is_name_char(b: u8) -> bool
-    ensures { result ≡ is_name_char b }
-{
-    b.is_ascii_alphanumeric() || b == b'_' || b == b'\''
-}
-
-fn are_name_chars(text: &[u8]) -> bool
-    ensures { result ≡ list_all is_name_char text.now }
-{
-    for b in text {
-        if !is_name_char(*b) {
-            return false;
-        }
-    }
-    true
-}
-
-/// A letter from A to Z and then characters of names.
-fn is_part(text: &[u8]) -> bool
-    ensures { result ≡ is_part text.now }
-{
-    match text {
-        [first, rest @ ..] => first.is_ascii_uppercase() && are_name_chars(rest),
-        [] => false,
-    }
-}
-
-/// Whether a text is a module's name.
-#[tactic(auto, unfolding(crate::specs::Names::is_module_name))]
-pub fn is_module_name(text: &[u8]) -> bool
-    ensures { result ≡ is_module_name text.now }
-{
-    !text.split(|b| *b == b'.').any(|part| !is_part(part))
-}
-
-fn is_alphanumeric(text: &[u8]) -> bool
-    ensures { result ≡ list_all is_ascii_alphanumeric text.now }
-{
-    for b in text {
-        if !b.is_ascii_alphanumeric() {
-            return false;
-        }
-    }
-    true
-}
-
-/// Letters and digits, one at least.
-#[tactic(auto, unfolding(crate::specs::Names::is_run))]
-fn is_run(text: &[u8]) -> bool
-    ensures { result ≡ is_run text.now }
-{
-    !text.is_empty() && is_alphanumeric(text)
-}
-
-/// Runs with single dashes between them.
-#[tactic(auto, unfolding(crate::specs::Names::is_package_name))]
-pub fn is_package_name(text: &[u8]) -> bool
-    ensures { result ≡ is_package_name text.now }
-{
-    !text.split(|b| *b == b'-').any(|part| !is_run(part))
-}
-
 /// How many characters stand before the first colon.
 fn colon_len(text: &[u8]) -> usize
-    ensures value { result ≡ prefix_len (λ b. not (b == 58)) text.now }
+    ensures value { result ≡ colon_place text.now }
     ensures within { result ≤ length text.now }
 {
     for (i, b) in text.iter().enumerate() {

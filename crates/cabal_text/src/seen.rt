@@ -2,7 +2,8 @@
 ghost use Rattle.std.specs.Prelude.{◌≡◌, List, ℕ, IfOk, OnOk, ◌||◌, not, [], false};
 ghost use Rattle.std.specs.HashSet.{contains};
 ghost use Rattle.std.specs.Str.{bytes_eq};
-ghost use Rattle.cabal_text.specs.Seen.{is_among, repeats, distinct};
+ghost use Rattle.bp_base.specs.Lists.{is_among};
+ghost use Rattle.cabal_text.specs.Seen.{repeats, distinct};
 
 use bp_base::{Name, Names};
 use sqlite_items::Items;
@@ -28,6 +29,17 @@ pub fn add_name(alloc: Global, seen: &mut HashSet<Name>, name: &Name) -> Result<
 {
     let added = seen.insert(name.copied(alloc)?)?;
     Ok(added)
+}
+
+/// The names as a set.
+pub fn name_set(alloc: Global, names: &[Name]) -> Result<HashSet<Name>, AllocError>
+    ensures { IfOk result (λ set. (q : List ℕ) → contains bytes_eq set q ≡ is_among q names.now) }
+{
+    let mut seen = HashSet::new(alloc);
+    for name in names {
+        add_name(alloc, &mut seen, name)?;
+    }
+    Ok(seen)
 }
 
 /// Whether some name stands twice.

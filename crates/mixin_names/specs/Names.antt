@@ -4,7 +4,7 @@ use Rattle.std.specs.List.{filter, flat_map}
 use Rattle.std.specs.Str.{bytes_eq}
 use Rattle.bp_base.specs.declared.linking.Rename.{Rename}
 use Rattle.bp_base.specs.declared.linking.Provision.{Provision}
-use Rattle.cabal_text.specs.Seen.{is_among}
+use Rattle.bp_base.specs.Lists.{is_among}
 use Rattle.cabal_component.specs.declared.component.Provides.{Provides}
 use Rattle.cabal_component.specs.declared.component.Provides.TheVariants.{Whole, Listed, Hiding}
 use Rattle.mixin_names.specs.declared.error.NameError.{NameError}
@@ -23,14 +23,18 @@ provided_names exposed = map (λ p. p.name) exposed
 abbrev pub under : List ℕ → Provision → Provision
 under name p = record { name = name; ident = p.ident }
 
+-- the provisions of a name, in their order
+abbrev pub provisions_of : List Provision → List ℕ → List Provision
+provisions_of exposed name = filter (λ p. bytes_eq p.name name) exposed
+
 -- what an item brings: every provision of its old name, in their order, under its new name
-abbrev pub brought : List Provision → Rename → List Provision
-brought exposed item = map (under item.to) (filter (λ p. bytes_eq p.name item.from) exposed)
+abbrev pub brought : (List ℕ → List Provision) → Rename → List Provision
+brought provisions item = map (under item.to) (provisions item.from)
 
 -- what an entry brings
 abbrev pub provided : Provides → List Provision → List Provision
 provided Whole exposed = exposed
-provided (Listed items) exposed = flat_map (brought exposed) items
+provided (Listed items) exposed = flat_map (brought (provisions_of exposed)) items
 provided (Hiding names) exposed = filter (λ p. not (is_among p.name names)) exposed
 
 -- the names that an entry lists or hides
@@ -48,12 +52,12 @@ abbrev pub linkage_name : List Rename → List ℕ → List ℕ
 linkage_name [] hole = hole
 linkage_name (r ∷ rs) hole = if bytes_eq r.from hole then r.to else linkage_name rs hole
 
-abbrev pub linked : List Rename → List ℕ → Rename
-linked needs hole = record { from = hole; to = linkage_name needs hole }
+abbrev pub linked : (List ℕ → List ℕ) → List ℕ → Rename
+linked names hole = record { from = hole; to = names hole }
 
 -- one renaming for each hole
-abbrev pub all_linked : List Rename → List (List ℕ) → List Rename
-all_linked needs holes = map (linked needs) holes
+abbrev pub all_linked : (List ℕ → List ℕ) → List (List ℕ) → List Rename
+all_linked names holes = map (linked names) holes
 
 -- the first listed name that is no hole
 abbrev pub missing_requirement : List Rename → List (List ℕ) → Option (List ℕ)

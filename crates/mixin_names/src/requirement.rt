@@ -1,6 +1,7 @@
 //! How an entry renames the requirements of a dependency.
 ghost use Rattle.std.specs.Prelude.{◌≡◌, None, List, ℕ, IfOk, MatchResult};
 ghost use Rattle.mixin_names.specs.Names.{linkage_name, linked, all_linked, missing_requirement, NamesRequirement};
+ghost use Rattle.mixin_names.specs.Tables.{name_at};
 
 use crate::error::NameError;
 use crate::provision::first_missing;
@@ -8,37 +9,61 @@ use bp_base::{Name, Names, Rename, Renames};
 use cabal_component::{Mixin, old_names};
 use sqlite_items::Items;
 use std::alloc::{AllocError, Global};
+use std::collections::HashMap;
 
-/// The linkage name of a hole: that of the first renaming of it; its own where it isn't mentioned.
-fn linkage_name(alloc: Global, needs: &[Rename], hole: &Name) -> Result<Name, AllocError>
-    ensures { IfOk result (λ name. name ≡ linkage_name needs.now hole.now) }
+/// The new names by their old ones: the first, where an old name has several.
+fn names_by_old(alloc: Global, needs: &[Rename]) -> Result<HashMap<Name, Name>, AllocError>
+    ensures { IfOk result (λ table. (q : List ℕ) → name_at table q ≡ linkage_name needs.now q) }
 {
+    let mut table = HashMap::new(alloc);
     for each in needs {
-        if each.from == *hole {
-            return each.to.copied(alloc);
+        if !table.contains_key(&each.from) {
+            table.insert(each.from.copied(alloc)?, each.to.copied(alloc)?)?;
         }
     }
-    hole.copied(alloc)
+    Ok(table)
 }
 
-fn linked(alloc: Global, needs: &[Rename], hole: &Name) -> Result<Rename, AllocError>
-    ensures { IfOk result (λ rename. rename ≡ linked needs.now hole.now) }
+/// The linkage name of a hole: its own where the table has none.
+fn linkage_name(alloc: Global, table: &HashMap<Name, Name>, hole: &Name) -> Result<Name, AllocError>
+    ensures { IfOk result (λ name. name ≡ name_at table.now hole.now) }
+{
+    match table.get(hole) {
+        Some(name) => name.copied(alloc),
+        None => hole.copied(alloc),
+    }
+}
+
+fn linked(alloc: Global, table: &HashMap<Name, Name>, hole: &Name) -> Result<Rename, AllocError>
+    ensures { IfOk result (λ rename. rename ≡ linked (name_at table.now) hole.now) }
 {
     Ok(Rename {
         from: hole.copied(alloc)?,
-        to: linkage_name(alloc, needs, hole)?,
+        to: linkage_name(alloc, table, hole)?,
     })
 }
 
 /// One renaming for each hole.
-fn all_linked(alloc: Global, needs: &[Rename], holes: &[Name]) -> Result<Renames, AllocError>
-    ensures { IfOk result (λ all. all ≡ all_linked needs.now holes.now) }
+fn linked_from(
+    alloc: Global,
+    table: &HashMap<Name, Name>,
+    holes: &[Name],
+) -> Result<Renames, AllocError>
+    ensures { IfOk result (λ all. all ≡ all_linked (name_at table.now) holes.now) }
 {
     let mut all = Items::new(alloc);
     for hole in holes {
-        all.push(linked(alloc, needs, hole)?)?;
+        all.push(linked(alloc, table, hole)?)?;
     }
     Ok(all)
+}
+
+/// One renaming for each hole, by these renamings.
+fn all_linked(alloc: Global, needs: &[Rename], holes: &[Name]) -> Result<Renames, AllocError>
+    ensures { IfOk result (λ all. all ≡ all_linked (linkage_name needs.now) holes.now) }
+{
+    let table = names_by_old(alloc, needs)?;
+    linked_from(alloc, &table, holes)
 }
 
 /// The first listed name that is no hole.
@@ -58,7 +83,7 @@ fn missing_requirement(
 /// name that is no hole.
 pub fn needs(alloc: Global, entry: &Mixin, holes: &Names) -> Result<Renames, NameError>
     ensures { MatchResult result
-        (λ found. (missing_requirement entry.now.needs holes.now ≡ None) × (found ≡ all_linked entry.now.needs holes.now))
+        (λ found. (missing_requirement entry.now.needs holes.now ≡ None) × (found ≡ all_linked (linkage_name entry.now.needs) holes.now))
         (λ e. NamesRequirement e (missing_requirement entry.now.needs holes.now)) }
 {
     let missing = missing_requirement(alloc, entry.needs.as_slice(), holes.as_slice())?;

@@ -29,20 +29,35 @@ fn rename(alloc: Global, from: &[u8], to: &[u8]) -> Result<Renames, AllocError> 
     Ok(all)
 }
 
-/// `q (from as to)`, of a dependency that exposes A twice, with identities X and Y, and C.
-fn brought(alloc: Global, from: &[u8], to: &[u8]) -> Result<Vec<u8>, NameError> {
-    let entry = Mixin {
+/// An entry of `q`.
+fn entry(alloc: Global, provides: Provides, needs: Renames) -> Result<Mixin, AllocError> {
+    Ok(Mixin {
         dep: Name::from_bytes(alloc, b"q")?,
-        provides: Provides::Listed {
-            items: rename(alloc, from, to)?,
-        },
-        needs: Items::new(alloc),
-    };
+        provides,
+        needs,
+    })
+}
+
+/// What an entry of `q` brings, where `q` exposes C, with identity Z, and before and after it A, with identities X and Y.
+fn brought(alloc: Global, provides_of: Provides) -> Result<Vec<u8>, NameError> {
     let mut exposed = Items::new(alloc);
     add_provision(alloc, &mut exposed, b"A", b"X")?;
     add_provision(alloc, &mut exposed, b"C", b"Z")?;
     add_provision(alloc, &mut exposed, b"A", b"Y")?;
-    let found = provides(alloc, &entry, &exposed)?;
+    brought_of(alloc, provides_of, &exposed)
+}
+
+/// The same of what `q` exposes.
+fn brought_of(
+    alloc: Global,
+    provides_of: Provides,
+    exposed: &Provisions,
+) -> Result<Vec<u8>, NameError> {
+    let found = provides(
+        alloc,
+        &entry(alloc, provides_of, Items::new(alloc))?,
+        exposed,
+    )?;
     let mut text = Vec::new(alloc);
     for each in found.as_slice() {
         add_text(&mut text, each.name.as_bytes())?;
@@ -53,6 +68,12 @@ fn brought(alloc: Global, from: &[u8], to: &[u8]) -> Result<Vec<u8>, NameError> 
     Ok(text)
 }
 
+fn names_of(alloc: Global, one: &[u8]) -> Result<Names, AllocError> {
+    let mut names = Items::new(alloc);
+    names.push(Name::from_bytes(alloc, one)?)?;
+    Ok(names)
+}
+
 fn add_text(text: &mut Vec<u8>, more: &[u8]) -> Result<(), AllocError> {
     text.extend_from_slice(more)?;
     text.push(b' ')?;
@@ -61,12 +82,11 @@ fn add_text(text: &mut Vec<u8>, more: &[u8]) -> Result<(), AllocError> {
 
 /// `q requires (from as to)`, of a dependency with these holes.
 fn linked(alloc: Global, from: &[u8], to: &[u8], holes: &Names) -> Result<Vec<u8>, NameError> {
-    let entry = Mixin {
-        dep: Name::from_bytes(alloc, b"q")?,
-        provides: Provides::Whole,
-        needs: rename(alloc, from, to)?,
-    };
-    let found = needs(alloc, &entry, holes)?;
+    let found = needs(
+        alloc,
+        &entry(alloc, Provides::Whole, rename(alloc, from, to)?)?,
+        holes,
+    )?;
     let mut text = Vec::new(alloc);
     for each in found.as_slice() {
         add_text(&mut text, each.from.as_bytes())?;
@@ -75,30 +95,66 @@ fn linked(alloc: Global, from: &[u8], to: &[u8], holes: &Names) -> Result<Vec<u8
     Ok(text)
 }
 
-/// What is found, or the name that is missing.
-fn shown(found: Result<Vec<u8>, NameError>) -> Result<Vec<u8>, AllocError> {
+/// What is found, or what is missing.
+fn shown(alloc: Global, found: Result<Vec<u8>, NameError>) -> Result<Vec<u8>, AllocError> {
+    let mut text = Vec::new(alloc);
     match found {
-        Ok(text) => Ok(text),
-        Err(NameError::NoProvision { name } | NameError::NoRequirement { name }) => Ok(
-            name.into_vec(),
-        ),
-        Err(NameError::NoMemory) => Err(AllocError),
+        Ok(found) => return Ok(found),
+        Err(NameError::NoProvision { name }) => {
+            add_text(&mut text, b"no provision")?;
+            add_text(&mut text, name.as_bytes())?;
+        }
+        Err(NameError::NoRequirement { name }) => {
+            add_text(&mut text, b"no requirement")?;
+            add_text(&mut text, name.as_bytes())?;
+        }
+        Err(NameError::NoMemory) => return Err(AllocError),
     }
+    Ok(text)
+}
+
+fn is_brought(alloc: Global, provides_of: Provides, expected: &[u8]) -> Result<bool, AllocError> {
+    Ok(shown(alloc, brought(alloc, provides_of))?.as_slice() == expected)
 }
 
 #[test]
-fn entries_rename(rt: HostRuntime) -> Result<(), Fail> {
+fn provisions_are_renamed(rt: HostRuntime) -> Result<(), Fail> {
     let alloc = rt.alloc();
-    let both = shown(brought(alloc, b"A", b"B"))?;
-    assert!(rt; both.as_slice() == b"B X B Y ".as_slice());
-    let none = shown(brought(alloc, b"D", b"B"))?;
-    assert!(rt; none.as_slice() == b"D".as_slice());
-    let mut holes = Items::new(alloc);
-    holes.push(Name::from_bytes(alloc, b"H")?)?;
+    let items = rename(alloc, b"A", b"B")?;
+    assert!(rt; is_brought(alloc, Provides::Listed { items }, b"B X B Y ")?);
+    let items = rename(alloc, b"D", b"B")?;
+    assert!(rt; is_brought(alloc, Provides::Listed { items }, b"no provision D ")?);
+    assert!(rt;
+        is_brought(
+            alloc,
+            Provides::Listed {
+                items: Items::new(alloc)
+            },
+            b""
+        )?
+    );
+    assert!(rt; is_brought(alloc, Provides::Whole, b"A X C Z A Y ")?);
+    let names = names_of(alloc, b"A")?;
+    assert!(rt; is_brought(alloc, Provides::Hiding { names }, b"C Z ")?);
+    let names = names_of(alloc, b"D")?;
+    assert!(rt; is_brought(alloc, Provides::Hiding { names }, b"no provision D ")?);
+    let mut only = Items::new(alloc);
+    add_provision(alloc, &mut only, b"C", b"Z")?;
+    let items = rename(alloc, b"A", b"B")?;
+    let missing = shown(alloc, brought_of(alloc, Provides::Listed { items }, &only))?;
+    assert!(rt; missing.as_slice() == b"no provision A ".as_slice());
+    Ok(())
+}
+
+#[test]
+fn requirements_are_renamed(rt: HostRuntime) -> Result<(), Fail> {
+    let alloc = rt.alloc();
+    let mut holes = names_of(alloc, b"H")?;
     holes.push(Name::from_bytes(alloc, b"K")?)?;
-    let found = shown(linked(alloc, b"H", b"G", &holes))?;
+    let found = shown(alloc, linked(alloc, b"H", b"G", &holes))?;
     assert!(rt; found.as_slice() == b"H G K K ".as_slice());
-    let missing = shown(linked(alloc, b"L", b"G", &holes))?;
-    assert!(rt; missing.as_slice() == b"L".as_slice());
+    let only = names_of(alloc, b"K")?;
+    let missing = shown(alloc, linked(alloc, b"H", b"G", &only))?;
+    assert!(rt; missing.as_slice() == b"no requirement H ".as_slice());
     Ok(())
 }

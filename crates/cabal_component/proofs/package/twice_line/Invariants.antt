@@ -2,7 +2,7 @@ use Rattle.std.proofs.Common.{◌≡◌, List, ℕ, take, drop, map}
 use Rattle.std.specs.HashSet.{contains}
 use Rattle.std.specs.Str.{bytes_eq}
 use Rattle.cabal_text.specs.Least.{least_of, sooner}
-use Rattle.cabal_text.specs.Seen.{is_among}
+use Rattle.bp_base.specs.Lists.{is_among}
 use Rattle.cabal_component.specs.Package.{twice_after, twice_lines}
 use Rattle.cabal_component.proofs.package.twice_line.Given as goal
 

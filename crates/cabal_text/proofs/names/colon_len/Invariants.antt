@@ -1,6 +1,6 @@
-use Rattle.std.proofs.Common.{◌≡◌, ◌+◌, drop, not, ◌==◌}
-use Rattle.std.specs.List.{prefix_len}
+use Rattle.std.proofs.Common.{◌≡◌, ◌+◌, drop}
+use Rattle.bp_base.specs.Names.{colon_place}
 use Rattle.cabal_text.proofs.names.colon_len.Given as goal
 
 abbrev pub invariant-loop-i : goal.invariant-loop-i
-invariant-loop-i l = l.i + prefix_len (λ b. not (b == 58)) (drop l.i l.text) ≡ prefix_len (λ b. not (b == 58)) l.text
+invariant-loop-i l = l.i + colon_place (drop l.i l.text) ≡ colon_place l.text

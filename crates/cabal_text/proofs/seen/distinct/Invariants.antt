@@ -1,7 +1,8 @@
 use Rattle.std.proofs.Common.{◌≡◌, ◌++◌, List, ℕ, take, drop}
 use Rattle.std.specs.HashSet.{contains}
 use Rattle.std.specs.Str.{bytes_eq}
-use Rattle.cabal_text.specs.Seen.{is_among, new_after, distinct}
+use Rattle.bp_base.specs.Lists.{is_among}
+use Rattle.cabal_text.specs.Seen.{new_after, distinct}
 use Rattle.cabal_text.proofs.seen.distinct.Given as goal
 
 abbrev pub invariant-loop-name : goal.invariant-loop-name

@@ -1,5 +1,5 @@
 use Rattle.std.proofs.Common.{◌≡◌, drop}
-use Rattle.cabal_text.specs.Seen.{is_among}
+use Rattle.bp_base.specs.Lists.{is_among}
 use Rattle.cabal_text.proofs.seen.is_among.Given as goal
 
 abbrev pub invariant-loop-each : goal.invariant-loop-each

@@ -1,7 +1,8 @@
 use Rattle.std.proofs.Common.{◌≡◌, List, ℕ, take, drop}
 use Rattle.std.specs.HashSet.{contains}
 use Rattle.std.specs.Str.{bytes_eq}
-use Rattle.cabal_text.specs.Seen.{is_among, repeats_after, repeats}
+use Rattle.bp_base.specs.Lists.{is_among}
+use Rattle.cabal_text.specs.Seen.{repeats_after, repeats}
 use Rattle.cabal_text.proofs.seen.repeats.Given as goal
 
 abbrev pub invariant-loop-name : goal.invariant-loop-name

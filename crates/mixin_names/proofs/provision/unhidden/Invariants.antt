@@ -1,7 +1,7 @@
 use Rattle.std.proofs.Common.{◌≡◌, ◌++◌, drop}
 use Rattle.std.specs.Prelude.{not}
 use Rattle.std.specs.List.{filter}
-use Rattle.cabal_text.specs.Seen.{is_among}
+use Rattle.bp_base.specs.Lists.{is_among}
 use Rattle.mixin_names.proofs.provision.unhidden.Given as goal
 
 abbrev pub invariant-loop-each : goal.invariant-loop-each

@@ -1,9 +1,0 @@
-use Rattle.std.proofs.Common.{◌≡◌, length}
-use Rattle.cabal_component.specs.Folder.{behind_slash}
-use Rattle.cabal_component.proofs.folder.behind_slash.Given as goal
-
-abbrev pub invariant-loop-rest : goal.invariant-loop-rest
-invariant-loop-rest l = behind_slash l.behind l.rest ≡ behind_slash l.path l.path
-
-abbrev pub decreases-loop-rest : goal.decreases-loop-rest
-decreases-loop-rest l = length l.rest
