@@ -1,6 +1,6 @@
 -- The fills of the holes are the answer.
-use Rattle.std.proofs.Common.{◌≡◌, ◌≢◌, ℕ, zero, suc, ◌+◌, ◌<◌, ◌≤◌, Bool, true, false, cond, nat_eq, List, [], ◌∷◌, ◌++◌, length, map, ◌⊎◌, inl, inr, refl, ap, sym, ◌∙◌, subst, arith}
-use Rattle.std.specs.Prelude.{Option, Some, None, unwrap_or}
+use Rattle.std.proofs.Common.{◌≡◌, ◌≢◌, ℕ, zero, suc, ◌<◌, Bool, true, false, cond, List, [], ◌∷◌, map, ◌⊎◌, inl, inr, refl, ap, sym, ◌∙◌, subst, arith}
+use Rattle.std.specs.Prelude.{Some, None, unwrap_or}
 use Rattle.std.specs.Str.{bytes_eq}
 use Rattle.std.specs.Ordering.{nat_cmp, ordering_reverse}
 use Rattle.std.specs.Cmp.Lexicographic.{slice_cmp}
@@ -12,28 +12,27 @@ use Rattle.bp_base.specs.declared.ident.Ident.TheVariants.{Hole, Module, Module'
 use Rattle.bp_base.specs.declared.ident.Unit.{Unit as OfUnit, out-Unit}
 use Rattle.bp_base.specs.declared.ident.Ident.TheViews.{roll-Unit}
 use Rattle.bp_base.specs.declared.ident.Fill.{Fill}
-use Rattle.bp_base.specs.declared.ident.Ident.TheBlock.{hidden-the_row-Unit-0, Row_of-Unit, end_of-Unit, more_of-Unit}
+use Rattle.bp_base.specs.declared.ident.Ident.TheBlock.{end_of-Unit, more_of-Unit}
 use Rattle.bp_base.specs.Lists.{Among}
 use Rattle.bp_base.specs.Texts.{Text, Before, Rise, RiseAfter}
-use Rattle.bp_base.proofs.Texts.{same_texts, other_texts, texts_same, tied_texts, Before-transitive, not_before_itself}
-use Rattle.unit_identity.specs.Fill.{found, filled, filled_unit, composed, at_hole}
+use Rattle.bp_base.proofs.Texts.{same_texts, other_texts, texts_same, tied_texts, not_before_itself}
+use Rattle.unit_identity.specs.Fill.{found, filled, composed, at_hole}
 use Rattle.unit_identity.proofs.Fills.{filled-Module, filled_unit-out}
 use Rattle.hole_unify.specs.declared.equation.Equation.{Equation}
 use Rattle.hole_unify.specs.declared.table.Node.{Node}
 use Rattle.hole_unify.specs.declared.build.Entry.{Entry}
 use Rattle.hole_unify.specs.Unifiers.{IsUnifier, IsAnswer}
-use Rattle.hole_unify.specs.Causes.{IsLawful, units_in, holes_of}
+use Rattle.hole_unify.specs.Causes.{IsLawful, units_in}
 use Rattle.hole_unify.specs.Table.{class_at, is_same, terms_in}
-use Rattle.hole_unify.specs.Tables.{In, One, IsTable}
+use Rattle.hole_unify.specs.Tables.{In, IsTable}
 use Rattle.hole_unify.specs.Close.{IsSettled}
-use Rattle.hole_unify.specs.Build.{built_at, is_less, place, inserted, put, hole_put, term_put, answer}
+use Rattle.hole_unify.specs.Build.{built_at, is_less, inserted, put, hole_put, term_put, answer}
 use Rattle.hole_unify.proofs.Terms.{Module-is, Hole-not-Module, same_terms, terms_same}
 use Rattle.hole_unify.proofs.Tables.{Some-same, class_at-found}
 use Rattle.hole_unify.proofs.Gaps.{fill-class, one_head, one_fill}
-use Rattle.hole_unify.specs.Stands.{Builds, NoFills, MoreFills, made, IsHole, IsMade, IsEntry, Stands}
-use Rattle.hole_unify.proofs.Building.{some-or-none, not-both, listed-unit, found-among}
+use Rattle.hole_unify.specs.Stands.{Builds, NoFills, MoreFills, made, IsEntry, Stands}
+use Rattle.hole_unify.proofs.Building.{some-or-none, listed-unit, found-among}
 use Rattle.hole_unify.proofs.Unifying.{weight, fill-lighter}
-use denote.Hole.Carrier.{hidden}
 
 -- ---- fills in order
 

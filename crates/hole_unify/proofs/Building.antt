@@ -1,5 +1,5 @@
 -- What is built from closed classes, none of whose holes reaches itself.
-use Rattle.std.proofs.Common.{◌≡◌, ◌≢◌, ℕ, zero, suc, ◌+◌, ◌<◌, ◌≤◌, Bool, true, false, ◌&&◌, ◌||◌, not, cond, nat_eq, List, [], ◌∷◌, ◌++◌, length, map, ◌⊎◌, inl, inr, refl, ap, sym, ◌∙◌, subst, arith}
+use Rattle.std.proofs.Common.{◌≡◌, ℕ, zero, suc, ◌+◌, ◌<◌, ◌≤◌, Bool, true, false, ◌&&◌, ◌||◌, cond, nat_eq, List, [], ◌∷◌, ◌++◌, map, ◌⊎◌, inl, inr, refl, ap, sym, ◌∙◌, subst, arith}
 use Rattle.std.proofs.lemmas.Bool.{eqb-true, eq-eqb}
 use Rattle.std.specs.Prelude.{Option, Some, None}
 use Rattle.std.specs.Option.{option_or}
@@ -7,33 +7,27 @@ use Rattle.std.specs.Str.{bytes_eq}
 use Rattle.bp_base.specs.declared.ident.Ident.{Ident}
 use Rattle.bp_base.specs.declared.ident.Ident.TheVariants.{Hole, Module, Module'}
 use Rattle.bp_base.specs.declared.ident.Unit.{Unit as OfUnit, Unit', out-Unit}
-use Rattle.bp_base.specs.declared.ident.Ident.TheViews.{roll-Unit, out-roll-Unit}
+use Rattle.bp_base.specs.declared.ident.Ident.TheViews.{roll-Unit}
 use Rattle.bp_base.specs.declared.ident.Fill.{Fill}
-use Rattle.bp_base.specs.declared.ident.Ident.TheBlock.{hidden-the_row-Unit-0, Row_of-Unit, end_of-Unit, more_of-Unit, Row_of-Fill, end_of-Fill, more_of-Fill}
+use Rattle.bp_base.specs.declared.ident.Ident.TheBlock.{end_of-Unit, more_of-Unit, Row_of-Fill, end_of-Fill, more_of-Fill}
 use Rattle.bp_base.specs.Lists.{Among}
 use Rattle.bp_base.specs.Texts.{Text, Before, Rise, RiseAfter}
-use Rattle.bp_base.proofs.Texts.{same_texts, other_texts, texts_same, Before-transitive, not_before_itself}
-use Rattle.unit_identity.specs.Fill.{found, filled, filled_unit, composed, at_hole}
+use Rattle.bp_base.proofs.Texts.{same_texts, texts_same, Before-transitive, not_before_itself}
+use Rattle.unit_identity.specs.Fill.{found, filled, composed}
 use Rattle.unit_identity.proofs.Fills.{filled-Module, filled_unit-out, filled_unit-roll}
 use Rattle.hole_unify.specs.declared.equation.Equation.{Equation}
 use Rattle.hole_unify.specs.declared.table.Node.{Node}
-use Rattle.hole_unify.specs.declared.reach.Edge.{Edge}
 use Rattle.hole_unify.specs.declared.build.Entry.{Entry}
 use Rattle.hole_unify.specs.Unifiers.{IsUnifier}
-use Rattle.hole_unify.specs.Classes.{Same}
-use Rattle.hole_unify.specs.Causes.{IsLawful, units_of, units_below, units_of_row, units_in, holes_of}
-use Rattle.hole_unify.specs.Table.{class_at, terms_in, terms_of, terms_below, terms_of_row}
-use Rattle.hole_unify.specs.Tables.{In, One, IsTable}
-use Rattle.hole_unify.specs.Close.{IsSettled}
-use Rattle.hole_unify.specs.Reach.{edges_of, least_from}
-use Rattle.hole_unify.specs.Build.{built_at, at_class, ident_built, with_fill, fills_built, module_of, is_module, has_module, term_hole, class_hole, least_hole, hole_of, term_ready, entry_of, node_ready, first_ready}
-use Rattle.hole_unify.specs.Stands.{Builds, NoFills, MoreFills, made, IsHole, IsMade, IsEntry, Stands}
-use Rattle.hole_unify.proofs.Terms.{Module-is, Hole-not-Module}
-use Rattle.hole_unify.proofs.Tables.{Among-left, Among-right, Among-cases, Among-map, Among-mapped, Some-same, class_at-found, class_at-none, sound-In, One-same}
-use Rattle.hole_unify.proofs.Gaps.{settled-same, fill-class, one_head, one_fill}
-use Rattle.hole_unify.proofs.Reaching.{Path, First, Then, edge-has, least-of, least-of-none}
-use Rattle.hole_unify.proofs.Unifying.{weight, fill-lighter, Same-filled, Module-unit}
-use denote.Hole.Carrier.{hidden}
+use Rattle.hole_unify.specs.Causes.{units_of, units_below, units_of_row, units_in}
+use Rattle.hole_unify.specs.Table.{class_at, is_module, terms_in, terms_of, terms_below, terms_of_row}
+use Rattle.hole_unify.specs.Tables.{In, IsTable}
+use Rattle.hole_unify.specs.Build.{built_at, at_class, ident_built, with_fill, fills_built, module_of, has_module, term_hole, class_hole, least_hole, hole_of, term_ready, entry_of, node_ready, first_ready, class_ready}
+use Rattle.hole_unify.specs.Stands.{Builds, NoFills, MoreFills, made, IsEntry, Stands}
+use Rattle.hole_unify.proofs.Terms.{Module-is, Hole-not-Module, is_module-Module}
+use Rattle.hole_unify.proofs.Tables.{Among-left, Among-right, Among-cases, Among-map, Among-mapped, Some-same, class_at-found, sound-In}
+use Rattle.hole_unify.proofs.Reaching.{least-of, least-of-none}
+use Rattle.hole_unify.proofs.Unifying.{Same-filled, Module-unit}
 
 -- ---- lists of options
 
@@ -135,10 +129,6 @@ least-hole k nodes n e =
 pub no-least : (k : ℕ) (nodes : List Node) → least_hole k nodes ≡ None → (n : Text) → In nodes (Hole n) k → ⊥
 no-least k nodes e n p = least-of-none (map (class_hole k) nodes) e n (hole-class k nodes n p)
 
-is_module-Module : (u : OfUnit) (m : Text) → is_module (Module u m) ≡ true
-unfolding hidden-the_row-Unit-0 hidden
-is_module-Module u m = refl
-
 true-or : (a b : Bool) → b ≡ true → a || b ≡ true
 true-or true b e = refl
 true-or false b e = e
@@ -152,7 +142,7 @@ has-module k (y ∷ ys) u m (x, inl e, i, c) =
 has-module k (y ∷ ys) u m (x, inr h, i, c) = true-or (nat_eq y.class k && is_module y.ident) (has_module k ys) (has-module k ys u m (x, h, i, c))
 
 -- a module of a class that has one
-module-of : (i : Ident) → is_module i ≡ true → (u : OfUnit) × (m : Text) × (i ≡ Module u m)
+pub module-of : (i : Ident) → is_module i ≡ true → (u : OfUnit) × (m : Text) × (i ≡ Module u m)
 module-of (Hole n) e = cc
 module-of (Module' s (more_of-Unit u end_of-Unit) m) e = (u, m, Module-is s u m)
 
@@ -218,6 +208,20 @@ first-in nodes built (x ∷ rest) e inside f = elim (or-either (node_ready nodes
 
 pub first-ready : (nodes : List Node) (built : List Entry) (e : Entry) → first_ready nodes built nodes ≡ Some e → IsReady nodes built e
 first-ready nodes built e f = first-in nodes built nodes e (λ x h. h) f
+
+class-in : (k : ℕ) (nodes : List Node) (built : List Entry) (rest : List Node) (e : Entry) → ((x : Node) → Among x rest → Among x nodes) → class_ready k nodes built rest ≡ Some e → IsReady nodes built e
+class-in k nodes built [] e inside f = cc
+class-in k nodes built (x ∷ rest) e inside f = elim (or-either (cond (nat_eq x.class k) (node_ready nodes built x) None) (class_ready k nodes built rest) e f) [
+  | inl a ↦ by (nat_eq x.class k) a
+  | inr b ↦ class-in k nodes built rest e (λ y h. inside y (inr h)) b
+]
+  where
+    by : (b : Bool) → cond b (node_ready nodes built x) None ≡ Some e → IsReady nodes built e
+    by true a = node-ready nodes built x e (inside x (inl refl)) a
+    by false a = cc
+
+pub class-ready : (k : ℕ) (nodes : List Node) (built : List Entry) (e : Entry) → class_ready k nodes built nodes ≡ Some e → IsReady nodes built e
+class-ready k nodes built e f = class-in k nodes built nodes e (λ x h. h) f
 
 pub none-in : (nodes : List Node) (built : List Entry) (rest : List Node) → first_ready nodes built rest ≡ None → (x : Node) → Among x rest → node_ready nodes built x ≡ None
 none-in nodes built [] f x h = absurd h

@@ -1,25 +1,24 @@
 -- Where no hole reaches itself, every class can be built.
-use Rattle.std.proofs.Common.{◌≡◌, ◌≢◌, ℕ, zero, suc, ◌+◌, ◌<◌, ◌≤◌, Bool, true, false, cond, nat_eq, List, [], ◌∷◌, ◌++◌, length, map, ◌⊎◌, inl, inr, refl, ap, sym, ◌∙◌, subst, arith}
+use Rattle.std.proofs.Common.{◌≡◌, ℕ, zero, suc, ◌<◌, ◌≤◌, Bool, true, false, cond, nat_eq, List, [], ◌∷◌, length, map, ◌⊎◌, inl, inr, refl, ap, sym, ◌∙◌, subst, arith}
 use Rattle.std.proofs.lemmas.Bool.{eqb-true, eq-eqb}
-use Rattle.std.specs.Prelude.{Option, Some, None}
+use Rattle.std.specs.Prelude.{Some, None}
 use Rattle.bp_base.specs.declared.ident.Ident.{Ident}
 use Rattle.bp_base.specs.declared.ident.Ident.TheVariants.{Hole, Module, Module'}
 use Rattle.bp_base.specs.declared.ident.Unit.{Unit as OfUnit, out-Unit}
 use Rattle.bp_base.specs.declared.ident.Fill.{Fill}
-use Rattle.bp_base.specs.declared.ident.Ident.TheBlock.{hidden-the_row-Unit-0, Row_of-Unit, end_of-Unit, more_of-Unit}
+use Rattle.bp_base.specs.declared.ident.Ident.TheBlock.{hidden-the_row-Unit-0, end_of-Unit, more_of-Unit}
 use Rattle.bp_base.specs.Lists.{Among}
 use Rattle.bp_base.specs.Texts.{Text}
 use Rattle.unit_identity.specs.Fill.{found}
 use Rattle.hole_unify.specs.declared.equation.Equation.{Equation}
 use Rattle.hole_unify.specs.declared.table.Node.{Node}
-use Rattle.hole_unify.specs.declared.reach.Edge.{Edge}
 use Rattle.hole_unify.specs.declared.build.Entry.{Entry}
 use Rattle.hole_unify.specs.Causes.{IsLawful}
 use Rattle.hole_unify.specs.Table.{class_at, terms_in}
 use Rattle.hole_unify.specs.Tables.{In, IsTable}
 use Rattle.hole_unify.specs.Close.{IsSettled}
 use Rattle.hole_unify.specs.Reach.{edges_of}
-use Rattle.hole_unify.specs.Build.{built_at, at_class, ident_built, fills_built, module_of, has_module, least_hole, hole_of, hole_ready, term_ready, entry_of, node_ready, first_ready}
+use Rattle.hole_unify.specs.Build.{built_at, at_class, ident_built, fills_built, module_of, has_module, least_hole, hole_of, term_ready, entry_of, node_ready, first_ready}
 use Rattle.hole_unify.proofs.Terms.{Module-is}
 use Rattle.hole_unify.proofs.Tables.{class_at-found, Among-map}
 use Rattle.hole_unify.proofs.Gaps.{fill-class}

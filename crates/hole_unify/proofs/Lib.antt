@@ -8,6 +8,7 @@ pub mod Opening
 pub mod Gaps
 pub mod Closings
 pub mod Reaching
+pub mod Searching
 pub mod Building
 pub mod Grounded
 pub mod Answering

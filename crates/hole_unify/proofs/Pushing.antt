@@ -1,6 +1,5 @@
 -- One step of building.
-use Rattle.std.proofs.Common.{◌≡◌, ◌≢◌, ℕ, zero, suc, ◌+◌, ◌<◌, ◌≤◌, Bool, true, false, cond, List, [], ◌∷◌, ◌++◌, length, get_or, take, drop, map, refl, ap, sym, ◌∙◌, subst, arith, append_assoc}
-use Rattle.std.proofs.Math.Seq.{drop-cons}
+use Rattle.std.proofs.Common.{◌≡◌, ℕ, suc, ◌+◌, ◌<◌, ◌≤◌, Bool, true, false, cond, List, [], ◌∷◌, ◌++◌, length, get_or, drop, refl, ap, sym, ◌∙◌, subst, arith, append_assoc}
 use Rattle.std.specs.Prelude.{Option, Some, None}
 use Rattle.std.specs.List.{insert}
 use Rattle.std.specs.Ordering.{nat_cmp}
@@ -8,7 +7,6 @@ use Rattle.std.specs.Cmp.Lexicographic.{slice_cmp}
 use Rattle.bp_base.specs.declared.ident.Ident.{Ident}
 use Rattle.bp_base.specs.declared.ident.Ident.TheVariants.{Hole, Module}
 use Rattle.bp_base.specs.declared.ident.Unit.{Unit as OfUnit, out-Unit}
-use Rattle.bp_base.specs.declared.ident.Ident.TheViews.{roll-Unit}
 use Rattle.bp_base.specs.declared.ident.Fill.{Fill}
 use Rattle.bp_base.specs.declared.ident.Ident.TheBlock.{hidden-the_row-Unit-0}
 use Rattle.bp_base.specs.Texts.{Text}
@@ -17,12 +15,10 @@ use Rattle.hole_unify.specs.declared.table.Node.{Node}
 use Rattle.hole_unify.specs.declared.build.Entry.{Entry}
 use Rattle.hole_unify.specs.Table.{is_same}
 use Rattle.hole_unify.specs.Tables.{IsTable}
-use Rattle.hole_unify.specs.Build.{built_at, ident_built, with_fill, fills_built, fronted, module_of, is_module, term_hole, first_ready, Pushes, is_less, place, inserted, term_ready}
-use Rattle.hole_unify.specs.declared.reach.Edge.{Edge}
-use Rattle.hole_unify.specs.Reach.{next_reached, with_one, reached}
+use Rattle.hole_unify.specs.Build.{ident_built, with_fill, fills_built, fronted, module_of, term_hole, first_ready, class_ready, Pushes, is_less, place, inserted, term_ready}
 use Rattle.hole_unify.specs.Stands.{Stands}
 use Rattle.hole_unify.proofs.Steps.{front_of}
-use Rattle.hole_unify.proofs.Building.{unbuilt, first-ready, ready-falls, stands-push}
+use Rattle.hole_unify.proofs.Building.{unbuilt, first-ready, class-ready, ready-falls, stands-push}
 use Rattle.hole_unify.proofs.Grounded.{term_ready-Module}
 use denote.Hole.Carrier.{hidden}
 
@@ -45,6 +41,15 @@ stopped nodes old new more p is = by (first_ready nodes old nodes) refl p
 
 pub still-stands : (nodes : List Node) (old new : List Entry) → new ≡ old → ((es : List Equation) → IsTable es nodes → Stands es nodes old) → (es : List Equation) → IsTable es nodes → Stands es nodes new
 still-stands nodes old new is st es t = subst (Stands es nodes) (sym is) (st es t)
+
+-- an entry of one class
+pub class-pushed : (k : ℕ) (nodes : List Node) (old new : List Entry) (more : Bool) → Pushes (class_ready k nodes old nodes) old new more → ((es : List Equation) → IsTable es nodes → Stands es nodes old)
+    → (es : List Equation) → IsTable es nodes → Stands es nodes new
+class-pushed k nodes old new more p st es t = by (class_ready k nodes old nodes) refl p
+  where
+    by : (o : Option Entry) → class_ready k nodes old nodes ≡ o → Pushes o old new more → Stands es nodes new
+    by None e q = subst (Stands es nodes) (sym q.1) (st es t)
+    by (Some x) e q = subst (Stands es nodes) (sym q.1) (stands-push es nodes t old x (st es t) (class-ready k nodes old x e))
 
 -- ---- the fills of a unit
 
@@ -103,10 +108,6 @@ insert-place f (x ∷ fs) = by (is_less (slice_cmp nat_cmp x.hole f.hole)) (inse
 
 -- ---- variants
 
-pub is_module-Module : (u : OfUnit) (m : Text) → is_module (Module u m) ≡ true
-unfolding hidden-the_row-Unit-0 hidden
-is_module-Module u m = refl
-
 pub term_hole-Module : (u : OfUnit) (m : Text) → term_hole (Module u m) ≡ None
 unfolding hidden-the_row-Unit-0 hidden
 term_hole-Module u m = refl
@@ -115,16 +116,4 @@ pub is_same-Module : (u : OfUnit) (m n : Text) → is_same (Module u m) (Hole n)
 unfolding hidden-the_row-Unit-0 hidden
 is_same-Module u m n = refl
 
-pub ruleset variant_equations = (is_module-Module, term_hole-Module, is_same-Module)
-
--- ---- one turn of reaching
-
-turn_of : (all : List Edge) (i : ℕ) → i < length all → (x : Edge) × (drop i all ≡ x ∷ drop (i + 1) all)
-turn_of all i lt =
-    let one : suc i ≡ i + 1 = omega arith in
-    let d : Edge = record { from = 0; to = 0 } in
-    (get_or all i d, drop-cons all i d lt ∙ ap (λ n. get_or all i d ∷ drop n all) one)
-
-pub reach-step : (k : ℕ) (all : List Edge) (done new : List ℕ) (i : ℕ) (t : List ℕ) → i < length all → new ≡ with_one done (next_reached k done all) → reached k all done (drop i all) ≡ t → reached k all new (drop (i + 1) all) ≡ t
-reach-step k all done new i t lt is so =
-    ap (λ l. reached k all l (drop (i + 1) all)) is ∙ ap (reached k all done) (sym (turn_of all i lt).1) ∙ so
+pub ruleset variant_equations = (term_hole-Module, is_same-Module)

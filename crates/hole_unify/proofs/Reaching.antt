@@ -1,5 +1,5 @@
 -- Which classes reach which, by the edges of a table.
-use Rattle.std.proofs.Common.{◌≡◌, ◌≢◌, ℕ, suc, ◌+◌, ◌<◌, ◌≤◌, Bool, true, false, ◌&&◌, ◌||◌, not, cond, nat_eq, List, [], ◌∷◌, ◌++◌, length, map, ◌⊎◌, inl, inr, refl, ap, sym, ◌∙◌, subst, arith}
+use Rattle.std.proofs.Common.{◌≡◌, ℕ, ◌+◌, ◌<◌, ◌≤◌, Bool, true, false, ◌&&◌, ◌||◌, not, cond, nat_eq, List, [], ◌∷◌, ◌++◌, length, ◌⊎◌, inl, inr, refl, ap, sym, ◌∙◌, subst, arith}
 use Rattle.std.proofs.lemmas.Bool.{eqb-true, eq-eqb}
 use Rattle.std.specs.Prelude.{Option, Some, None}
 use Rattle.std.specs.Ordering.{nat_cmp, ordering_reverse}
@@ -10,24 +10,24 @@ use Rattle.std.specs.declared.cmp.Ordering.{Ordering}
 use Rattle.std.specs.declared.cmp.Ordering.TheVariants.{Less, Equal, Greater}
 use Rattle.bp_base.specs.declared.ident.Ident.{Ident}
 use Rattle.bp_base.specs.declared.ident.Ident.TheVariants.{Hole, Module, Module'}
-use Rattle.bp_base.specs.declared.ident.Unit.{Unit as OfUnit, Unit', out-Unit}
+use Rattle.bp_base.specs.declared.ident.Unit.{Unit as OfUnit, out-Unit}
 use Rattle.bp_base.specs.declared.ident.Fill.{Fill}
-use Rattle.bp_base.specs.declared.ident.Ident.TheBlock.{hidden-the_row-Unit-0, Row_of-Unit, end_of-Unit, more_of-Unit}
+use Rattle.bp_base.specs.declared.ident.Ident.TheBlock.{hidden-the_row-Unit-0, end_of-Unit, more_of-Unit}
 use Rattle.bp_base.specs.Lists.{Among}
 use Rattle.bp_base.specs.Texts.{Text, Before}
-use Rattle.bp_base.proofs.Texts.{same_texts, other_texts, texts_same, tied_texts, Before-transitive, not_before_itself}
+use Rattle.bp_base.proofs.Texts.{same_texts, tied_texts, Before-transitive, not_before_itself}
 use Rattle.unit_identity.specs.Fill.{found}
 use Rattle.hole_unify.specs.declared.equation.Equation.{Equation}
 use Rattle.hole_unify.specs.declared.table.Node.{Node}
 use Rattle.hole_unify.specs.declared.reach.Edge.{Edge}
-use Rattle.hole_unify.specs.Classes.{Same, Itself, Turned, Reaches, Next, Through, IsLeastCycle}
-use Rattle.hole_unify.specs.Table.{class_at, terms_in}
-use Rattle.hole_unify.specs.Tables.{In, One, IsTable}
-use Rattle.hole_unify.specs.Reach.{class_edge, fill_edge, fills_edges, term_edges, edges_of, holds, next_reached, with_one, reached, on_cycle, before, lesser, least_from, term_cycle, hole_cycle, least_cycle}
+use Rattle.hole_unify.specs.Classes.{Same, Itself, Reaches, Next, Through}
+use Rattle.hole_unify.specs.Table.{class_at}
+use Rattle.hole_unify.specs.Tables.{In, IsTable}
+use Rattle.hole_unify.specs.Reach.{class_edge, fill_edge, fills_edges, term_edges, edges_of, holds, next_reached, with_one, reached, on_cycle, before, lesser, least_from}
 use Rattle.hole_unify.proofs.Terms.{Module-is, Hole-not-Module}
-use Rattle.hole_unify.proofs.Tables.{Among-left, Among-right, Among-cases, Among-map, Some-same, class_at-found, sound-In}
+use Rattle.hole_unify.proofs.Tables.{Among-left, Among-right, Among-cases, Some-same, class_at-found, sound-In}
 use Rattle.hole_unify.specs.Close.{IsSettled}
-use Rattle.hole_unify.proofs.Gaps.{settled-same, fill-class, one_head, one_fill}
+use Rattle.hole_unify.proofs.Gaps.{settled-same, fill-class}
 use denote.Hole.Carrier.{hidden}
 
 -- ---- edges
@@ -110,7 +110,7 @@ pub Path-joined : (all : List Edge) (k l n : ℕ) → Path all k l → Path all 
 Path-joined all k l n p (First e a) = Then k e p a
 Path-joined all k l n p (Then x e q a) = Then k e (Path-joined all k x e.from p q) a
 
-holds-says : (k : ℕ) (l : List ℕ) → holds k l ≡ true → Among k l
+pub holds-says : (k : ℕ) (l : List ℕ) → holds k l ≡ true → Among k l
 holds-says k [] e = cc
 holds-says k (n ∷ ns) e = by (nat_eq n k) refl e (holds-says k ns)
   where
@@ -118,7 +118,7 @@ holds-says k (n ∷ ns) e = by (nat_eq n k) refl e (holds-says k ns)
     by true d f r = inl (eqb-true n k d)
     by false d f r = inr (r f)
 
-holds-has : (k : ℕ) (l : List ℕ) → Among k l → holds k l ≡ true
+pub holds-has : (k : ℕ) (l : List ℕ) → Among k l → holds k l ≡ true
 holds-has k [] h = absurd h
 holds-has k (n ∷ ns) (inl e) = ap (λ b. b || holds k ns) (eq-eqb n k e)
 holds-has k (n ∷ ns) (inr h) = by (nat_eq n k) (holds-has k ns h)

@@ -1,11 +1,11 @@
 -- From closed classes to unifiers and to obstacles.
-use Rattle.std.proofs.Common.{◌≡◌, ◌≢◌, ℕ, zero, suc, ◌+◌, ◌-◌, ◌/◌, ◌<◌, ◌≤◌, Bool, true, false, cond, List, [], ◌∷◌, ◌++◌, length, get_or, take, drop, append-nil, map, ◌⊎◌, inl, inr, refl, ap, sym, ◌∙◌, subst, arith}
+use Rattle.std.proofs.Common.{◌≡◌, ℕ, ◌+◌, ◌-◌, ◌/◌, ◌<◌, ◌≤◌, Bool, true, false, cond, List, [], ◌∷◌, ◌++◌, length, get_or, take, drop, append-nil, map, inl, inr, refl, ap, sym, ◌∙◌, subst, arith}
 use Rattle.std.specs.Prelude.{Option, Some, None}
 use Rattle.bp_base.specs.declared.ident.Ident.{Ident}
 use Rattle.bp_base.specs.declared.ident.Ident.TheVariants.{Hole, Module'}
 use Rattle.bp_base.specs.declared.ident.Unit.{Unit as OfUnit}
 use Rattle.bp_base.specs.Lists.{Among}
-use Rattle.bp_base.specs.Texts.{Text, Before}
+use Rattle.bp_base.specs.Texts.{Text}
 use Rattle.bp_base.specs.declared.ident.Fill.{Fill}
 use Rattle.hole_unify.specs.declared.equation.Equation.{Equation}
 use Rattle.hole_unify.specs.declared.equation.Head.{Head}
@@ -14,8 +14,8 @@ use Rattle.hole_unify.specs.declared.reach.Edge.{Edge}
 use Rattle.hole_unify.specs.declared.build.Entry.{Entry}
 use Rattle.hole_unify.specs.declared.solve.Obstacle.{Obstacle}
 use Rattle.hole_unify.specs.declared.solve.Obstacle.TheVariants.{Clash, Cycle}
-use Rattle.hole_unify.specs.Unifiers.{IsUnifier, HasUnifier, IsAnswer}
-use Rattle.hole_unify.specs.Classes.{HasHeads, Reaches, IsLeastCycle}
+use Rattle.hole_unify.specs.Unifiers.{HasUnifier, IsAnswer}
+use Rattle.hole_unify.specs.Classes.{HasHeads, IsLeastCycle}
 use Rattle.hole_unify.specs.Causes.{FailsAt, IsCause, IsLawful, units_of, units_in}
 use Rattle.hole_unify.specs.Tables.{In, IsTable}
 use Rattle.hole_unify.specs.Close.{IsSettled}
@@ -25,9 +25,9 @@ use Rattle.hole_unify.specs.Stands.{Stands}
 use Rattle.hole_unify.specs.declared.solve.Range.{Range}
 use Rattle.hole_unify.specs.Solve.{IsObstacle, IsFirst, IsRange, labelled}
 use Rattle.std.proofs.lemmas.List.{take-append-drop, take_more, take_all, drop_all}
-use Rattle.hole_unify.proofs.Tables.{Among-left, Among-right, Among-cases, Among-map, Among-mapped, Some-same}
+use Rattle.hole_unify.proofs.Tables.{Among-left, Among-right, Among-cases, Among-map, Among-mapped, Some-same, class_at-found}
 use Rattle.hole_unify.proofs.Gaps.{settled-heads}
-use Rattle.hole_unify.proofs.Reaching.{Path, path-cycle, cycle-listed, listed-cycle, least-of, least-of-none}
+use Rattle.hole_unify.proofs.Reaching.{edge-says, path-cycle, cycle-listed, listed-cycle, least-of, least-of-none}
 use Rattle.hole_unify.proofs.Building.{build-ends, no-entries, unbuilt}
 use Rattle.hole_unify.proofs.Grounded.{IsAcyclic, all-done}
 use Rattle.hole_unify.proofs.Answering.{is-answer}
@@ -161,6 +161,18 @@ pub cycle-found : (es : List Equation) (nodes first second : List Node) (edges t
     → edges ≡ edges_of first first → third ≡ edges → o ≡ least_cycle third second → o ≡ Some hole → ((one other : Head) → HasHeads es one other → ⊥) × IsLeastCycle es hole
 cycle-found es nodes first second edges third o hole s a b made c found is =
     cycle-met es nodes hole s ((λ w. least_cycle (sym (c ∙ made ∙ (λ v. edges_of (a v) (a v))) w) (sym b w)) ∙ sym found ∙ is)
+
+-- what the search for a cycle asks of them
+pub settled-classes : (es : List Equation) (nodes rows : List Node) → IsSettled es nodes → rows ≡ nodes → (x : Node) → Among x rows → x.class < length rows
+settled-classes es nodes rows s is = subst (λ z. (x : Node) → Among x z → x.class < length z) (sym is) s.joined.table.below
+
+pub settled-ends : (es : List Equation) (nodes first rows : List Node) (edges third : List Edge) → IsSettled es nodes → first ≡ nodes → rows ≡ nodes → edges ≡ edges_of first first → third ≡ edges → (e : Edge) → Among e third → e.to < length rows
+settled-ends es nodes first rows edges third s a b made c e h =
+    let x = edge-says nodes e (subst (λ z. Among e z) (c ∙ made ∙ (λ w. edges_of (a w) (a w))) h) in
+    let p = class_at-found x.ident nodes e.to x.to in
+    let lt = s.joined.table.below p.0 p.1 in
+    let is = p.3 in
+    let same = ap length b in omega (arith, lt, is, same)
 
 -- a table that was written through a slice of a vector
 pub written : (len : ℕ) (now old : List Node) → length now ≡ length old → len ≡ length old → take len (now ++ drop (length now) old) ≡ now

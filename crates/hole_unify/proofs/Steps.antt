@@ -1,5 +1,5 @@
 -- One step of each loop over terms.
-use Rattle.std.proofs.Common.{◌≡◌, ℕ, suc, ◌+◌, ◌<◌, List, [], ◌∷◌, ◌++◌, length, get_or, set, take, drop, map, refl, ap, sym, ◌∙◌, subst, arith}
+use Rattle.std.proofs.Common.{◌≡◌, ℕ, suc, ◌+◌, ◌<◌, List, [], ◌∷◌, ◌++◌, length, get_or, set, take, drop, map, ap, sym, ◌∙◌, arith}
 use Rattle.std.proofs.Math.Seq.{drop-cons}
 use Rattle.std.proofs.lemmas.List.Edits.{map_over_more}
 use Rattle.bp_base.specs.declared.ident.Ident.{Ident}
@@ -9,7 +9,7 @@ use Rattle.bp_base.specs.declared.ident.Fill.{Fill}
 use Rattle.bp_base.specs.Texts.{Text}
 use Rattle.hole_unify.specs.declared.equation.Equation.{Equation}
 use Rattle.hole_unify.specs.declared.table.Node.{Node}
-use Rattle.hole_unify.specs.Table.{fresh_class, numbered, terms_of, terms_below, terms_in_fills, terms_in, renumbered, renumbered_node}
+use Rattle.hole_unify.specs.Table.{fresh_class, numbered, terms_of, terms_below, terms_in_fills, terms_in, renumbered_node}
 use Rattle.hole_unify.proofs.Terms.{terms_of-Module, terms_below-out, numbered-append}
 
 pub front_of : {A : Type 0} (xs : List A) (i : ℕ) (x : A) → i < length xs → x ≡ get_or xs i x → drop i xs ≡ x ∷ drop (i + 1) xs

@@ -1,19 +1,20 @@
 -- The table of equations, and what joining classes keeps.
-use Rattle.std.proofs.Common.{◌≡◌, ◌≢◌, ℕ, suc, ◌+◌, ◌<◌, ◌≤◌, Bool, true, false, cond, nat_eq, List, [], ◌∷◌, ◌++◌, length, map, ◌⊎◌, inl, inr, refl, ap, sym, ◌∙◌, subst, arith, rules, length-append}
+use Rattle.std.proofs.Common.{◌≡◌, ℕ, ◌+◌, ◌<◌, Bool, true, false, cond, nat_eq, List, [], ◌∷◌, ◌++◌, length, map, ◌⊎◌, inl, inr, refl, ap, sym, ◌∙◌, subst, arith, length-append}
+use Rattle.std.proofs.lemmas.List.{length-map}
 use Rattle.std.proofs.lemmas.Bool.{eqb-true, eq-eqb}
 use Rattle.std.specs.Prelude.{Option, Some, None, unwrap_or}
 use Rattle.bp_base.specs.declared.ident.Ident.{Ident}
 use Rattle.bp_base.specs.Lists.{Among}
 use Rattle.hole_unify.specs.declared.equation.Equation.{Equation}
 use Rattle.hole_unify.specs.declared.table.Node.{Node}
-use Rattle.hole_unify.specs.Classes.{Same, Stated, Itself, Turned, Joined}
-use Rattle.hole_unify.specs.Table.{is_same, class_at, fresh_class, numbered, terms_of, terms_in, renumbered, renumbered_node, moved, join_at, joined}
-use Rattle.hole_unify.specs.Tables.{In, One, IsTable, IsJoined}
+use Rattle.hole_unify.specs.Classes.{Same, Itself, Turned, Joined}
+use Rattle.hole_unify.specs.Table.{is_same, class_at, fresh_class, numbered, terms_of, terms_in, renumbered, renumbered_node, moved}
+use Rattle.hole_unify.specs.Tables.{In, One, IsTable}
 use Rattle.std.specs.Str.{bytes_eq}
 use Rattle.bp_base.specs.declared.ident.Ident.TheVariants.{Hole, Module, Module'}
 use Rattle.bp_base.specs.declared.ident.Unit.{Unit as OfUnit, Unit', out-Unit}
 use Rattle.bp_base.specs.declared.ident.Fill.{Fill}
-use Rattle.bp_base.specs.declared.ident.Ident.TheBlock.{Row_of-Unit, end_of-Unit, more_of-Unit, Row_of-Fill, end_of-Fill, more_of-Fill}
+use Rattle.bp_base.specs.declared.ident.Ident.TheBlock.{end_of-Unit, more_of-Unit, Row_of-Fill, end_of-Fill, more_of-Fill}
 use Rattle.bp_base.specs.Texts.{Text}
 use Rattle.unit_identity.specs.Fill.{found}
 use Rattle.hole_unify.specs.Table.{terms_below, terms_of_row, terms_in_fills}
@@ -161,6 +162,10 @@ numbered-only (t ∷ ts) nodes x h = elim (numbered-only ts _ x h) [
 no-nodes : IsFresh []
 no-nodes = record { one = λ t k l a b. absurd a.1; apart = λ x y a b e. absurd a; below = λ x a. absurd a }
 
+-- before any joining a class has one term
+pub first-apart : (es : List Equation) (a b : Ident) (k : ℕ) → In (numbered (terms_in es) []) a k → In (numbered (terms_in es) []) b k → a ≡ b
+first-apart es a b k (x, h, i, c) (y, g, j, d) = sym i ∙ (numbered-fresh (terms_in es) [] no-nodes).apart x y h g (c ∙ sym d) ∙ j
+
 Same-equal : (es : List Equation) (a b : Ident) → a ≡ b → Same es a b
 Same-equal es a b e = subst (λ x. Same es a x) e (Itself a)
 
@@ -171,13 +176,14 @@ first-table es =
       listed = λ t h. numbered-listed (terms_in es) [] t h;
       only = λ x h. elim (numbered-only (terms_in es) [] x h) [ inl a ↦ absurd a | inr b ↦ b ];
       one = f.one;
+      below = f.below;
       sound = λ x y a b e. Same-equal es x.ident y.ident (f.apart x y a b e);
     }
 
 -- ---- joining two classes
 
 -- numbers that become one
-renumbered-cases : (from to p q : ℕ) → renumbered from to p ≡ renumbered from to q → (p ≡ q) ⊎ (((p ≡ from) × (q ≡ to)) ⊎ ((p ≡ to) × (q ≡ from)))
+pub renumbered-cases : (from to p q : ℕ) → renumbered from to p ≡ renumbered from to q → (p ≡ q) ⊎ (((p ≡ from) × (q ≡ to)) ⊎ ((p ≡ to) × (q ≡ from)))
 renumbered-cases from to p q = by (nat_eq p from) (nat_eq q from) refl refl
   where
     by : (a b : Bool) → nat_eq p from ≡ a → nat_eq q from ≡ b → cond (nat_eq p from) to p ≡ cond (nat_eq q from) to q → (p ≡ q) ⊎ (((p ≡ from) × (q ≡ to)) ⊎ ((p ≡ to) × (q ≡ from)))
@@ -220,9 +226,21 @@ moved-table es nodes from to a b p q same t = record {
   listed = λ s h. let k = t.listed s h in (renumbered from to k.0, In-moved nodes from to s k.0 k.1);
   only = λ x h. let y = Among-mapped (renumbered_node from to) x nodes h in subst (λ v. Among v (terms_in es)) (ap (λ v. v.ident) y.2) (t.only y.0 y.1);
   one = λ s k l c d. let x = In-unmoved nodes from to s k c in let y = In-unmoved nodes from to s l d in sym x.2 ∙ ap (renumbered from to) (t.one s x.0 y.0 x.1 y.1) ∙ y.2;
+  below = λ x h. below x (Among-mapped (renumbered_node from to) x nodes h);
   sound = λ x y h g e. sound x y (Among-mapped (renumbered_node from to) x nodes h) (Among-mapped (renumbered_node from to) y nodes g) e;
 }
   where
+    below : (x : Node) → (v : Node) × Among v nodes × (renumbered_node from to v ≡ x) → x.class < length (moved from to nodes)
+    below x (v, h, e) = by (nat_eq v.class from) refl
+      where
+        by : (c : Bool) → nat_eq v.class from ≡ c → x.class < length (moved from to nodes)
+        by true d =
+            let is : to ≡ x.class = sym (ap (λ b. cond b to v.class) d) ∙ ap (λ z. z.class) e in
+            let lt = t.below q.0 q.1 in let there = q.3 in let same = length-map nodes (renumbered_node from to) in omega (arith, is, lt, there, same)
+        by false d =
+            let is : v.class ≡ x.class = sym (ap (λ b. cond b to v.class) d) ∙ ap (λ z. z.class) e in
+            let lt = t.below v h in let same = length-map nodes (renumbered_node from to) in omega (arith, is, lt, same)
+
     across : (v w : Node) → Among v nodes → Among w nodes → v.class ≡ from → w.class ≡ to → Same es v.ident w.ident
     across v w h g c d =
         let first : Same es v.ident a = sound-In es nodes t v.ident a from (v, h, refl, c) p in
@@ -239,18 +257,6 @@ moved-table es nodes from to a b p q same t = record {
         let both = renumbered-cases from to v.class w.class (ap (λ z. z.class) c ∙ e ∙ sym (ap (λ z. z.class) d)) in
         subst (λ z. Same es z y.ident) (ap (λ z. z.ident) c) (subst (λ z. Same es v.ident z) (ap (λ z. z.ident) d) (of v w h g both))
 
--- ---- joining the sides of each equation
-
-join_at-table : (es : List Equation) (nodes : List Node) (a b : Ident) (left right : Option ℕ) → class_at a nodes ≡ left → class_at b nodes ≡ right → Same es a b → IsTable es nodes → IsTable es (join_at left right nodes)
-join_at-table es nodes a b None right p q s t = t
-join_at-table es nodes a b (Some from) None p q s t = t
-join_at-table es nodes a b (Some from) (Some to) p q s t = moved-table es nodes from to a b (class_at-found a nodes from p) (class_at-found b nodes to q) s t
-
-join_at-One : (nodes : List Node) (left right : Option ℕ) (a b : Ident) → One nodes a b → One (join_at left right nodes) a b
-join_at-One nodes None right a b o = o
-join_at-One nodes (Some from) None a b o = o
-join_at-One nodes (Some from) (Some to) a b o = One-moved nodes from to a b o
-
 pub listed-class : (es : List Equation) (nodes : List Node) → IsTable es nodes → (a : Ident) → Among a (terms_in es) → (k : ℕ) × (class_at a nodes ≡ Some k)
 listed-class es nodes t a h = by (class_at a nodes) refl
   where
@@ -258,44 +264,20 @@ listed-class es nodes t a h = by (class_at a nodes) refl
     by None e = let x = t.listed a h in absurd (class_at-none a nodes e x.1.0 x.1.1 x.1.2)
     by (Some k) e = (k, e)
 
-join_at-joins : (nodes : List Node) (a b : Ident) (k l : ℕ) → class_at a nodes ≡ Some k → class_at b nodes ≡ Some l → One (join_at (class_at a nodes) (class_at b nodes) nodes) a b
-join_at-joins nodes a b k l p q = subst (λ o. One (join_at o (class_at b nodes) nodes) a b) (sym p) (subst (λ o. One (join_at (Some k) o nodes) a b) (sym q) (One-joined nodes k l a b (class_at-found a nodes k p) (class_at-found b nodes l q)))
-
-joined-One : (rest : List Equation) (nodes : List Node) (a b : Ident) → One nodes a b → One (joined rest nodes) a b
-joined-One [] nodes a b o = o
-joined-One (e ∷ rest) nodes a b o = joined-One rest _ a b (join_at-One nodes (class_at e.left nodes) (class_at e.right nodes) a b o)
-
 -- what the equations list
-terms_of-self : (i : Ident) → Among i (terms_of i)
+pub terms_of-self : (i : Ident) → Among i (terms_of i)
 terms_of-self (Hole n) = inl refl
 terms_of-self (Module' s (more_of-Unit u end_of-Unit) m) = inl (sym (Module-is s u m))
 
-left-listed : (es : List Equation) (e : Equation) → Among e es → Among e.left (terms_in es)
+pub left-listed : (es : List Equation) (e : Equation) → Among e es → Among e.left (terms_in es)
 left-listed [] e h = absurd h
 left-listed (x ∷ es) e (inl is) = Among-left e.left (terms_of x.left) _ (subst (λ v. Among v.left (terms_of x.left)) is (terms_of-self x.left))
 left-listed (x ∷ es) e (inr h) = Among-right e.left (terms_of x.left) _ (Among-right e.left (terms_of x.right) _ (left-listed es e h))
 
-right-listed : (es : List Equation) (e : Equation) → Among e es → Among e.right (terms_in es)
+pub right-listed : (es : List Equation) (e : Equation) → Among e es → Among e.right (terms_in es)
 right-listed [] e h = absurd h
 right-listed (x ∷ es) e (inl is) = Among-right e.right (terms_of x.left) _ (Among-left e.right (terms_of x.right) _ (subst (λ v. Among v.right (terms_of x.right)) is (terms_of-self x.right)))
 right-listed (x ∷ es) e (inr h) = Among-right e.right (terms_of x.left) _ (Among-right e.right (terms_of x.right) _ (right-listed es e h))
-
-joined-table : (es rest : List Equation) (nodes : List Node) → ((e : Equation) → Among e rest → Among e es) → IsTable es nodes → IsTable es (joined rest nodes)
-joined-table es [] nodes inside t = t
-joined-table es (e ∷ rest) nodes inside t = joined-table es rest _ (λ x h. inside x (inr h)) (join_at-table es nodes e.left e.right _ _ refl refl (Stated e (inside e (inl refl))) t)
-
-joined-stated : (es rest : List Equation) (nodes : List Node) → ((e : Equation) → Among e rest → Among e es) → IsTable es nodes → (e : Equation) → Among e rest → One (joined rest nodes) e.left e.right
-joined-stated es [] nodes inside t e h = absurd h
-joined-stated es (x ∷ rest) nodes inside t e (inl is) =
-    let k = listed-class es nodes t x.left (left-listed es x (inside x (inl refl))) in
-    let l = listed-class es nodes t x.right (right-listed es x (inside x (inl refl))) in
-    subst (λ v. One (joined rest (join_at (class_at x.left nodes) (class_at x.right nodes) nodes)) v.left v.right) is
-    (joined-One rest _ x.left x.right (join_at-joins nodes x.left x.right k.0 l.0 k.1 l.1))
-joined-stated es (x ∷ rest) nodes inside t e (inr h) =
-    joined-stated es rest _ (λ y g. inside y (inr g)) (join_at-table es nodes x.left x.right _ _ refl refl (Stated x (inside x (inl refl))) t) e h
-
-pub joined-all : (es : List Equation) → IsJoined es (joined es (numbered (terms_in es) []))
-joined-all es = record { table = joined-table es es _ (λ e h. h) (first-table es); stated = joined-stated es es _ (λ e h. h) (first-table es) }
 
 -- ---- what is below a term is listed too
 

@@ -1,17 +1,16 @@
 -- Equations of the definitions on terms.
-use Rattle.std.proofs.Common.{◌≡◌, ◌↔◌, ℕ, Bool, true, false, ◌&&◌, cond, List, [], ◌∷◌, ◌++◌, refl, ap, sym, ◌∙◌, subst, rules, append_assoc}
+use Rattle.std.proofs.Common.{◌≡◌, ℕ, Bool, true, false, ◌&&◌, List, [], ◌∷◌, ◌++◌, refl, ap, sym, ◌∙◌}
 use Rattle.std.specs.Prelude.{IsTrue}
-use Rattle.std.specs.Str.{bytes_eq}
 use Rattle.bp_base.specs.declared.ident.Ident.{Ident}
 use Rattle.bp_base.specs.declared.ident.Ident.TheVariants.{Hole, Module, Module'}
 use Rattle.bp_base.specs.declared.ident.Unit.{Unit as OfUnit, Unit', out-Unit}
 use Rattle.bp_base.specs.declared.ident.Fill.{Fill}
-use Rattle.bp_base.specs.declared.ident.Ident.TheBlock.{hidden-the_row-Unit-0, shown-the_row-Fill-1, Row_of-Unit, end_of-Unit, more_of-Unit, Row_of-Fill, end_of-Fill, more_of-Fill}
+use Rattle.bp_base.specs.declared.ident.Ident.TheBlock.{hidden-the_row-Unit-0, shown-the_row-Fill-1, end_of-Unit, more_of-Unit, Row_of-Fill, end_of-Fill, more_of-Fill}
 use Rattle.bp_base.proofs.Idents.{unit-same}
 use Rattle.bp_base.proofs.Texts.{same_texts, texts_same}
 use Rattle.hole_unify.specs.declared.table.Node.{Node}
-use Rattle.hole_unify.specs.Table.{is_same, is_same_unit, is_same_row, terms_of, terms_below, terms_of_row, terms_in_fills, numbered, fresh_class}
-use mathlib.Core.Former.{list_count, this, none_left, one_more}
+use Rattle.hole_unify.specs.Table.{is_module, is_same, is_same_unit, is_same_row, terms_of, terms_below, terms_of_row, terms_in_fills, numbered, fresh_class}
+use mathlib.Core.Former.{list_count, this, none_left}
 use denote.Hole.Carrier.{hidden, out, shown}
 
 pub terms_of-Module : (u : OfUnit) (m : List ℕ) → terms_of (Module u m) ≡ Module u m ∷ terms_below u
@@ -27,6 +26,12 @@ pub terms_below-out : (u : OfUnit) → terms_below u ≡ terms_in_fills (out-Uni
 terms_below-out (Unit' c s r) = terms-row c s r
 
 pub ruleset term_equations = (terms_of-Module, terms_below-out)
+
+pub is_module-Module : (u : OfUnit) (m : List ℕ) → is_module (Module u m) ≡ true
+unfolding hidden-the_row-Unit-0 hidden
+is_module-Module u m = refl
+
+pub ruleset module_equations = (is_module-Module)
 
 pub numbered-append : (a b : List Ident) (nodes : List Node) → numbered (a ++ b) nodes ≡ numbered b (numbered a nodes)
 numbered-append [] b nodes = refl

@@ -10,12 +10,12 @@ use Rattle.bp_base.specs.declared.ident.Ident.TheVariants.{Hole, Module, Module'
 use Rattle.bp_base.specs.declared.ident.Unit.{Unit as OfUnit, out-Unit}
 use Rattle.bp_base.specs.declared.ident.Ident.TheViews.{roll-Unit}
 use Rattle.bp_base.specs.declared.ident.Fill.{Fill}
-use Rattle.bp_base.specs.declared.ident.Ident.TheBlock.{Row_of-Unit, end_of-Unit, more_of-Unit}
+use Rattle.bp_base.specs.declared.ident.Ident.TheBlock.{end_of-Unit, more_of-Unit}
 use Rattle.bp_base.specs.Texts.{Text}
 use Rattle.unit_identity.specs.Fill.{found}
 use Rattle.hole_unify.specs.declared.table.Node.{Node}
 use Rattle.hole_unify.specs.declared.build.Entry.{Entry}
-use Rattle.hole_unify.specs.Table.{class_at, is_same}
+use Rattle.hole_unify.specs.Table.{class_at, is_same, is_module}
 use Rattle.hole_unify.specs.Reach.{least_from}
 
 -- what is built for a class
@@ -47,10 +47,6 @@ fronted front (Some fs) = Some (front ++ fs)
 abbrev pub module_of : OfUnit → Text → Option (List Fill) → Option Ident
 module_of u m None = None
 module_of u m (Some fs) = Some (Module (roll-Unit (record { component = (out-Unit u).component; fills = fs })) m)
-
-abbrev pub is_module : Ident → Bool
-is_module (Hole n) = false
-is_module (Module' s r m) = true
 
 -- whether a class has a module
 abbrev pub has_module : ℕ → List Node → Bool
@@ -92,6 +88,11 @@ node_ready nodes built x = entry_of x.class (built_at x.class built) (term_ready
 abbrev pub first_ready : List Node → List Entry → List Node → Option Entry
 first_ready nodes built [] = None
 first_ready nodes built (x ∷ rest) = option_or (node_ready nodes built x) (first_ready nodes built rest)
+
+-- the same of one class
+abbrev pub class_ready : ℕ → List Node → List Entry → List Node → Option Entry
+class_ready k nodes built [] = None
+class_ready k nodes built (x ∷ rest) = option_or (if nat_eq x.class k then node_ready nodes built x else None) (class_ready k nodes built rest)
 
 -- one entry more, where there is one
 abbrev pub Pushes : Option Entry → List Entry → List Entry → Bool → Type 0

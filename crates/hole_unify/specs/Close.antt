@@ -1,72 +1,95 @@
--- What keeps the classes of a table from being closed.
-use Rattle.std.specs.Prelude.{◌≡◌, ℕ, Bool, true, false, ◌&&◌, List, [], ◌∷◌, Option, Some, None, if◌then◌else◌, nat_eq, nat_lt}
-use Rattle.std.specs.Option.{option_or}
+-- What follows where two classes become one, and what closing keeps.
+use Rattle.std.specs.Prelude.{◌≡◌, ℕ, ◌&&◌, List, [], ◌∷◌, ◌++◌, Option, Some, None, if◌then◌else◌, nat_eq, nat_lt}
 use Rattle.std.specs.Str.{bytes_eq}
 use Rattle.bp_base.specs.declared.ident.Ident.{Ident}
 use Rattle.bp_base.specs.declared.ident.Ident.TheVariants.{Hole, Module, Module'}
 use Rattle.bp_base.specs.declared.ident.Unit.{Unit as OfUnit, out-Unit}
 use Rattle.bp_base.specs.declared.ident.Fill.{Fill}
-use Rattle.bp_base.specs.declared.ident.Ident.TheBlock.{Row_of-Unit, end_of-Unit, more_of-Unit}
+use Rattle.bp_base.specs.declared.ident.Ident.TheBlock.{end_of-Unit, more_of-Unit}
 use Rattle.bp_base.specs.Texts.{Text}
 use Rattle.unit_identity.specs.Fill.{found}
 use Rattle.hole_unify.specs.declared.table.Node.{Node}
-use Rattle.hole_unify.specs.declared.close.Open.{Open}
-use Rattle.hole_unify.specs.declared.close.Open.TheVariants.{Heads, Gap}
+use Rattle.hole_unify.specs.declared.close.Pair.{Pair}
 use Rattle.hole_unify.specs.declared.equation.Equation.{Equation}
 use Rattle.hole_unify.specs.declared.equation.Head.{Head}
 use Rattle.hole_unify.specs.Classes.{head_of, HasHeads}
-use Rattle.hole_unify.specs.Tables.{IsJoined}
-use Rattle.hole_unify.specs.Table.{class_at, moved}
+use Rattle.hole_unify.specs.Tables.{In, IsJoined}
+use Rattle.hole_unify.specs.Table.{class_at, is_module, moved}
 
--- two classes that are to be one, the greater number first
-abbrev pub class_gap : Option ℕ → Option ℕ → Option Open
-class_gap None right = None
-class_gap (Some k) None = None
-class_gap (Some k) (Some l) = if nat_lt l k then Some (Gap k l) else (if nat_lt k l then Some (Gap l k) else None)
+abbrev pub fill_pair : Option Ident → Option Ident → List Pair
+fill_pair None right = []
+fill_pair (Some i) None = []
+fill_pair (Some i) (Some j) = record { one = i; other = j } ∷ []
 
-abbrev pub fill_gap : List Node → Option Ident → Option Ident → Option Open
-fill_gap nodes None right = None
-fill_gap nodes (Some i) None = None
-fill_gap nodes (Some i) (Some j) = class_gap (class_at i nodes) (class_at j nodes)
+-- the fills of two units hole by hole, where `rest` is what is left of the first one's
+abbrev pub fills_pairs : List Fill → List Fill → List Fill → List Pair
+fills_pairs ours theirs [] = []
+fills_pairs ours theirs (f ∷ rest) = fill_pair (found f.hole ours) (found f.hole theirs) ++ fills_pairs ours theirs rest
 
--- two units of one component, of which `rest` is what is left of the first one's fills
-abbrev pub fills_gap : List Node → List Fill → List Fill → List Fill → Option Open
-fills_gap nodes ours theirs [] = None
-fills_gap nodes ours theirs (f ∷ rest) = option_or (fill_gap nodes (found f.hole ours) (found f.hole theirs)) (fills_gap nodes ours theirs rest)
+abbrev pub units_pairs : OfUnit → Text → OfUnit → Text → List Pair
+units_pairs u m v n = if bytes_eq (out-Unit u).component (out-Unit v).component && bytes_eq m n then fills_pairs (out-Unit u).fills (out-Unit v).fills (out-Unit u).fills else []
 
-abbrev pub units_open : List Node → OfUnit → Text → OfUnit → Text → Option Open
-units_open nodes u m v n = if bytes_eq (out-Unit u).component (out-Unit v).component && bytes_eq m n then fills_gap nodes (out-Unit u).fills (out-Unit v).fills (out-Unit u).fills else Some (Heads (head_of u m) (head_of v n))
+abbrev pub units_heads : OfUnit → Text → OfUnit → Text → Option (Head × Head)
+units_heads u m v n = if bytes_eq (out-Unit u).component (out-Unit v).component && bytes_eq m n then None else Some (head_of u m, head_of v n)
 
--- two terms of one class
-abbrev pub terms_open : List Node → Ident → Ident → Option Open
-terms_open nodes (Hole m) b = None
-terms_open nodes (Module' s r m) (Hole n) = None
-terms_open nodes (Module' s (more_of-Unit u end_of-Unit) m) (Module' t (more_of-Unit v end_of-Unit) n) = units_open nodes u m v n
+-- the pairs that are to be one where two terms are of one class
+abbrev pub terms_pairs : Ident → Ident → List Pair
+terms_pairs (Hole m) b = []
+terms_pairs (Module' s r m) (Hole n) = []
+terms_pairs (Module' s (more_of-Unit u end_of-Unit) m) (Module' t (more_of-Unit v end_of-Unit) n) = units_pairs u m v n
 
-abbrev pub pair_open : List Node → Node → Node → Option Open
-pair_open nodes x y = if nat_eq x.class y.class then terms_open nodes x.ident y.ident else None
+-- the heads of two terms, where they are two
+abbrev pub terms_heads : Ident → Ident → Option (Head × Head)
+terms_heads (Hole m) b = None
+terms_heads (Module' s r m) (Hole n) = None
+terms_heads (Module' s (more_of-Unit u end_of-Unit) m) (Module' t (more_of-Unit v end_of-Unit) n) = units_heads u m v n
 
-abbrev pub open_with : List Node → Node → List Node → Option Open
-open_with nodes x [] = None
-open_with nodes x (y ∷ rest) = option_or (pair_open nodes x y) (open_with nodes x rest)
+-- the first module of a class
+abbrev pub module_at : ℕ → List Node → Option Ident
+module_at k [] = None
+module_at k (x ∷ xs) = if nat_eq x.class k && is_module x.ident then Some x.ident else module_at k xs
 
-abbrev pub open_in : List Node → List Node → Option Open
-open_in nodes [] = None
-open_in nodes (x ∷ rest) = option_or (open_with nodes x nodes) (open_in nodes rest)
+abbrev pub modules_pairs : Option Ident → Option Ident → List Pair
+modules_pairs None right = []
+modules_pairs (Some a) None = []
+modules_pairs (Some a) (Some b) = terms_pairs a b
 
--- the first pair of terms of one class that has two heads, or whose fills at one hole are of two classes
-abbrev pub first_open : List Node → Option Open
-first_open nodes = open_in nodes nodes
+abbrev pub modules_heads : Option Ident → Option Ident → Option (Head × Head)
+modules_heads None right = None
+modules_heads (Some a) None = None
+modules_heads (Some a) (Some b) = terms_heads a b
 
-abbrev pub stepped : Option Open → List Node → List Node
-stepped None nodes = nodes
-stepped (Some (Heads one other)) nodes = nodes
-stepped (Some (Gap from to)) nodes = moved from to nodes
+-- two classes become one, which has the smaller number: the pairs that wait then, two different heads, and the table
+abbrev pub classes_pairs : Option ℕ → Option ℕ → List Node → List Pair
+classes_pairs None right nodes = []
+classes_pairs (Some k) None nodes = []
+classes_pairs (Some k) (Some l) nodes = if nat_lt k l then modules_pairs (module_at k nodes) (module_at l nodes) else (if nat_lt l k then modules_pairs (module_at l nodes) (module_at k nodes) else [])
+
+abbrev pub classes_heads : Option ℕ → Option ℕ → List Node → Option (Head × Head)
+classes_heads None right nodes = None
+classes_heads (Some k) None nodes = None
+classes_heads (Some k) (Some l) nodes = if nat_lt k l then modules_heads (module_at k nodes) (module_at l nodes) else (if nat_lt l k then modules_heads (module_at l nodes) (module_at k nodes) else None)
+
+abbrev pub classes_moved : Option ℕ → Option ℕ → List Node → List Node
+classes_moved None right nodes = nodes
+classes_moved (Some k) None nodes = nodes
+classes_moved (Some k) (Some l) nodes = if nat_lt k l then moved l k nodes else (if nat_lt l k then moved k l nodes else nodes)
+
+-- the sides of each equation, those of the first one last
+abbrev pub stated_pairs : List Equation → List Pair
+stated_pairs [] = []
+stated_pairs (e ∷ es) = stated_pairs es ++ record { one = e.left; other = e.right } ∷ []
+
+-- modules of one class have one head, and their fills at one hole are of one class
+pub record IsEven (nodes : List Node) : Type 0 where
+  pub heads : (u v : OfUnit) (m n : Text) (k : ℕ) → In nodes (Module u m) k → In nodes (Module v n) k → ((out-Unit u).component ≡ (out-Unit v).component) × (m ≡ n)
+  pub fills : (u v : OfUnit) (m n h : Text) (k p q : ℕ) (i j : Ident) → In nodes (Module u m) k → In nodes (Module v n) k
+      → found h (out-Unit u).fills ≡ Some i → found h (out-Unit v).fills ≡ Some j → class_at i nodes ≡ Some p → class_at j nodes ≡ Some q → p ≡ q
 
 -- a closed table of the equations
 pub record IsSettled (es : List Equation) (nodes : List Node) : Type 0 where
   pub joined : IsJoined es nodes
-  pub closed : first_open nodes ≡ None
+  pub closed : IsEven nodes
 
 -- closing ends at a closed table, or at two different heads of one class
 abbrev pub Ends : List Equation → List Node → Option (Head × Head) → Type 0

@@ -1,15 +1,16 @@
 -- Which classes a class reaches through fills.
-use Rattle.std.specs.Prelude.{◌≡◌, ℕ, Bool, true, false, ◌&&◌, ◌||◌, not, List, [], ◌∷◌, ◌++◌, Option, Some, None, if◌then◌else◌, nat_eq, map}
+use Rattle.std.specs.Prelude.{◌≡◌, ℕ, zero, suc, ◌<◌, ◌+◌, Bool, true, false, ◌&&◌, ◌||◌, not, List, [], ◌∷◌, ◌++◌, length, get_or, Option, Some, None, if◌then◌else◌, nat_eq, map}
 use Rattle.std.specs.Ordering.{nat_cmp}
 use Rattle.std.specs.Cmp.Lexicographic.{slice_cmp}
 use Rattle.std.specs.declared.cmp.Ordering.{Ordering}
 use Rattle.std.specs.declared.cmp.Ordering.TheVariants.{Less, Equal, Greater}
+use Rattle.bp_base.specs.Lists.{Among}
 use Rattle.bp_base.specs.Texts.{Text}
 use Rattle.bp_base.specs.declared.ident.Ident.{Ident}
 use Rattle.bp_base.specs.declared.ident.Ident.TheVariants.{Hole, Module'}
-use Rattle.bp_base.specs.declared.ident.Unit.{Unit as OfUnit, out-Unit}
+use Rattle.bp_base.specs.declared.ident.Unit.{out-Unit}
 use Rattle.bp_base.specs.declared.ident.Fill.{Fill}
-use Rattle.bp_base.specs.declared.ident.Ident.TheBlock.{Row_of-Unit, end_of-Unit, more_of-Unit}
+use Rattle.bp_base.specs.declared.ident.Ident.TheBlock.{end_of-Unit, more_of-Unit}
 use Rattle.unit_identity.specs.Fill.{found}
 use Rattle.hole_unify.specs.declared.table.Node.{Node}
 use Rattle.hole_unify.specs.declared.reach.Edge.{Edge}
@@ -40,6 +41,37 @@ abbrev pub holds : ℕ → List ℕ → Bool
 holds k [] = false
 holds k (n ∷ ns) = nat_eq n k || holds k ns
 
+-- the ends of the edges from a class
+abbrev pub ends_of : ℕ → List Edge → List ℕ
+ends_of k [] = []
+ends_of k (e ∷ es) = if nat_eq e.from k then e.to ∷ ends_of k es else ends_of k es
+
+-- those from each class below a number
+abbrev pub ends_upto : ℕ → List Edge → List (List ℕ)
+ends_upto zero es = []
+ends_upto (suc n) es = ends_upto n es ++ ends_of n es ∷ []
+
+-- how many classes are not marked
+abbrev pub free : List Bool → ℕ
+free [] = 0
+free (true ∷ marks) = free marks
+free (false ∷ marks) = free marks + 1
+
+-- the ends of the edges from each class are below a number
+abbrev pub AreBelow : ℕ → List (List ℕ) → Type 0
+AreBelow n lists = (ks : List ℕ) → Among ks lists → (k : ℕ) → Among k ks → k < n
+
+-- the marks say which classes are among those
+abbrev pub Agree : List Bool → List ℕ → Type 0
+Agree marks done = (k : ℕ) → k < length marks → get_or marks k false ≡ holds k done
+
+abbrev pub visited : List ℕ → ℕ → List ℕ
+visited done k = if holds k done then done else done ++ k ∷ []
+
+abbrev pub all_visited : List ℕ → List ℕ → List ℕ
+all_visited done [] = done
+all_visited done (k ∷ ks) = all_visited (visited done k) ks
+
 -- the first class that one step more reaches
 abbrev pub next_reached : ℕ → List ℕ → List Edge → Option ℕ
 next_reached k done [] = None
@@ -56,6 +88,10 @@ reached k all done (e ∷ turns) = reached k all (with_one done (next_reached k 
 
 abbrev pub on_cycle : ℕ → List Edge → Bool
 on_cycle k all = holds k (reached k all [] all)
+
+-- whether the start is among those that are reached
+abbrev pub IsReached : List (List ℕ) → ℕ → List ℕ → Type 0
+IsReached lists start done = (edges : List Edge) → lists ≡ ends_upto (length lists) edges → holds start done ≡ on_cycle start edges
 
 -- the lesser of two names, where there are two
 abbrev pub before : Ordering → Text → Text → Text

@@ -1,11 +1,11 @@
 -- The table of terms, and joining of classes.
-use Rattle.std.specs.Prelude.{◌≡◌, ℕ, Bool, true, false, ◌&&◌, List, [], ◌∷◌, ◌++◌, length, map, Option, Some, None, unwrap_or, if◌then◌else◌, nat_eq}
+use Rattle.std.specs.Prelude.{ℕ, Bool, true, false, ◌&&◌, List, [], ◌∷◌, ◌++◌, length, map, Option, Some, None, unwrap_or, if◌then◌else◌, nat_eq}
 use Rattle.std.specs.Str.{bytes_eq}
 use Rattle.bp_base.specs.declared.ident.Ident.{Ident}
 use Rattle.bp_base.specs.declared.ident.Ident.TheVariants.{Hole, Module, Module'}
 use Rattle.bp_base.specs.declared.ident.Unit.{Unit as OfUnit, Unit'}
 use Rattle.bp_base.specs.declared.ident.Fill.{Fill}
-use Rattle.bp_base.specs.declared.ident.Ident.TheBlock.{Row_of-Unit, end_of-Unit, more_of-Unit, Row_of-Fill, end_of-Fill, more_of-Fill}
+use Rattle.bp_base.specs.declared.ident.Ident.TheBlock.{end_of-Unit, more_of-Unit, Row_of-Fill, end_of-Fill, more_of-Fill}
 use Rattle.hole_unify.specs.declared.equation.Equation.{Equation}
 use Rattle.hole_unify.specs.declared.table.Node.{Node}
 
@@ -25,6 +25,10 @@ abbrev mutual
   is_same_row end_of-Fill (more_of-Fill h i r) = false
   is_same_row (more_of-Fill h i r) end_of-Fill = false
   is_same_row (more_of-Fill h i r) (more_of-Fill k j q) = (bytes_eq h k && is_same i j) && is_same_row r q
+
+abbrev pub is_module : Ident → Bool
+is_module (Hole n) = false
+is_module (Module' s r m) = true
 
 -- a term, and the terms below it
 abbrev mutual
@@ -69,12 +73,3 @@ renumbered_node from to x = record { ident = x.ident; class = renumbered from to
 
 abbrev pub moved : ℕ → ℕ → List Node → List Node
 moved from to nodes = map (renumbered_node from to) nodes
-
-abbrev pub join_at : Option ℕ → Option ℕ → List Node → List Node
-join_at None right nodes = nodes
-join_at (Some from) None nodes = nodes
-join_at (Some from) (Some to) nodes = moved from to nodes
-
-abbrev pub joined : List Equation → List Node → List Node
-joined [] nodes = nodes
-joined (e ∷ es) nodes = joined es (join_at (class_at e.left nodes) (class_at e.right nodes) nodes)

@@ -9,10 +9,11 @@ ghost use Rattle.hole_unify.specs.Stands.{Stands};
 ghost use Rattle.bp_base.specs.declared.ident.Ident.TheVariants.{Hole};
 ghost use Rattle.std.specs.Option.{option_copied};
 ghost use Rattle.unit_identity.specs.Fill.{found};
-ghost use Rattle.hole_unify.specs.Build.{built_at, ident_built, fills_built, module_of, is_module, has_module, class_hole, least_hole, hole_ready, term_ready, node_ready, first_ready, Pushes, is_less, place, inserted, hole_put, term_put, answer};
+ghost use Rattle.hole_unify.specs.Build.{built_at, ident_built, fills_built, module_of, has_module, class_hole, least_hole, hole_ready, term_ready, node_ready, first_ready, class_ready, Pushes, is_less, place, inserted, hole_put, term_put, answer};
 
+use crate::order::list_order;
 use crate::reach::lesser_name;
-use crate::table::{Node, class_of};
+use crate::table::{Node, class_of, is_of_module};
 use bp_base::{Fill, Fills, Ident, Name, Unit, compare};
 use sqlite_items::{Boxed, Items};
 use std::alloc::{AllocError, Global};
@@ -67,16 +68,6 @@ fn build_fills(
         }
     }
     Ok(Some(all))
-}
-
-#[tactic(auto, using(crate::proofs::Pushing::variant_equations))]
-fn is_of_module(ident: &Ident) -> bool
-    ensures { result ≡ is_module ident.now }
-{
-    match ident {
-        Ident::Hole { .. } => false,
-        Ident::Module { .. } => true,
-    }
 }
 
 fn class_has_module(nodes: &[Node], class: usize) -> bool
@@ -222,12 +213,53 @@ fn add_next(alloc: Global, nodes: &[Node], built: &mut Vec<Entry>) -> Result<boo
     }
 }
 
-/// Builds all classes.
+/// The entry of a class, where it is not built and can be.
+fn build_class(
+    alloc: Global,
+    nodes: &[Node],
+    built: &[Entry],
+    class: usize,
+) -> Result<Option<Entry>, AllocError>
+    ensures { IfOk result (λ r. r ≡ class_ready class nodes.now built.now nodes.now) }
+{
+    for node in nodes {
+        if node.class == class {
+            if let Some(entry) = build_node(alloc, nodes, built, node)? {
+                return Ok(Some(entry));
+            }
+        }
+    }
+    Ok(None)
+}
+
+/// The entry of a class more, where it is not built and can be.
+fn add_class(
+    alloc: Global,
+    nodes: &[Node],
+    built: &mut Vec<Entry>,
+    class: usize,
+) -> Result<bool, AllocError>
+    ensures { IfOk result (λ more. Pushes (class_ready class nodes.now built.old.items nodes.now) built.old.items built.new.items more) }
+{
+    match build_class(alloc, nodes, built.as_slice(), class)? {
+        Some(entry) => {
+            built.push(entry)?;
+            Ok(true)
+        }
+        None => Ok(false),
+    }
+}
+
+/// Builds all classes. The order in which they are tried only saves time: those that are left are found one by one.
 pub fn build(alloc: Global, nodes: &[Node]) -> Result<Vec<Entry>, AllocError>
     ensures stands { IfOk result (λ built. (es : List Equation) → IsTable es nodes.now → Stands es nodes.now built.items) }
     ensures ends { IfOk result (λ built. first_ready nodes.now built.items nodes.now ≡ None) }
 {
+    let order = list_order(alloc, nodes)?;
     let mut built = Vec::new(alloc);
+    'classes: for class in order.as_slice() {
+        add_class(alloc, nodes, &mut built, *class)?;
+    }
     'steps: while add_next(alloc, nodes, &mut built)? {}
     Ok(built)
 }

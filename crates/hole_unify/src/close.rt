@@ -1,196 +1,253 @@
-//! Closing classes: where two terms of one class have one head, their fills at each hole are put into one class.
-ghost use Rattle.std.specs.Prelude.{◌≡◌, [], IfOk};
+//! Closing classes: the sides of each equation are put into one class, and where two classes with one head become one, their fills at
+//! each hole too. What is still to be done waits in a list of pairs of terms.
+ghost use Rattle.std.specs.Prelude.{◌≡◌, [], ◌++◌, IfOk, OnOk};
+ghost use Rattle.std.specs.Option.{option_copied};
 ghost use Rattle.unit_identity.specs.Fill.{found};
+ghost use Rattle.hole_unify.specs.Causes.{IsLawful};
 ghost use Rattle.hole_unify.specs.Classes.{head_of};
-ghost use Rattle.hole_unify.specs.Close.{class_gap, fill_gap, fills_gap, units_open, terms_open, pair_open, open_with, open_in, first_open, stepped, Ends};
-ghost use Rattle.hole_unify.specs.Table.{numbered, terms_in};
+ghost use Rattle.hole_unify.specs.Close.{fill_pair, fills_pairs, units_pairs, units_heads, terms_pairs, terms_heads, module_at, modules_pairs, modules_heads, classes_pairs, classes_heads, classes_moved, stated_pairs, Ends};
+ghost use Rattle.hole_unify.specs.Table.{class_at, is_module, numbered, moved, terms_in};
 
 use crate::equation::{Equation, Head};
-use crate::table::{Node, class_of, join, join_equations};
+use crate::table::{Node, class_of, is_of_module, join};
 use bp_base::{Fill, Ident, Name, Unit};
 use std::alloc::{AllocError, Global};
 use unit_identity::filler;
 
-/// What keeps classes from being closed.
+/// Two terms whose classes are to be one.
 #[derive(Debug, Drop)]
-pub enum Open {
-    /// Two different heads of one class.
-    Heads { one: Head, other: Head },
-    /// Two classes that are to be one; the number `to` is the smaller one.
-    Gap { from: usize, to: usize },
+pub struct Pair {
+    pub one: Ident,
+    pub other: Ident,
 }
 
-/// Two classes that are to be one.
-fn gap_between(left: Option<usize>, right: Option<usize>) -> Option<Open>
-    ensures { result ≡ class_gap left right }
+/// The fills of two units at one hole.
+fn add_pair_at(
+    alloc: Global,
+    ours: &[Fill],
+    theirs: &[Fill],
+    hole: &Name,
+    pending: &mut Vec<Pair>,
+) -> Result<(), AllocError>
+    ensures { OnOk result (pending.new.items ≡ pending.old.items ++ fill_pair (found hole.now ours.now) (found hole.now theirs.now)) }
 {
-    match (left, right) {
-        (Some(k), Some(l)) => {
-            if l < k {
-                Some(Open::Gap { from: k, to: l })
-            } else if k < l {
-                Some(Open::Gap { from: l, to: k })
-            } else {
-                None
-            }
+    if let Some(left) = filler(ours, hole) {
+        if let Some(right) = filler(theirs, hole) {
+            pending.push(Pair {
+                one: left.copied(alloc)?,
+                other: right.copied(alloc)?,
+            })?;
         }
-        _ => None,
     }
+    Ok(())
 }
 
-/// The gap between the fills of two units at one hole.
-fn gap_at(nodes: &[Node], ours: &[Fill], theirs: &[Fill], hole: &Name) -> Option<Open>
-    ensures { result ≡ fill_gap nodes.now (found hole.now ours.now) (found hole.now theirs.now) }
-{
-    match filler(ours, hole) {
-        Some(left) => match filler(theirs, hole) {
-            Some(right) => gap_between(class_of(nodes, left), class_of(nodes, right)),
-            None => None,
-        },
-        None => None,
-    }
-}
-
-/// The first gap between the fills of two units of one component.
-fn gap_of_fills(nodes: &[Node], ours: &[Fill], theirs: &[Fill]) -> Option<Open>
-    ensures { result ≡ fills_gap nodes.now ours.now theirs.now ours.now }
+/// The fills of two units of one component, hole by hole.
+fn add_pairs(
+    alloc: Global,
+    ours: &[Fill],
+    theirs: &[Fill],
+    pending: &mut Vec<Pair>,
+) -> Result<(), AllocError>
+    ensures { OnOk result (pending.new.items ≡ pending.old.items ++ fills_pairs ours.now theirs.now ours.now) }
 {
     for each in ours {
-        if let Some(open) = gap_at(nodes, ours, theirs, &each.hole) {
-            return Some(open);
-        }
+        add_pair_at(alloc, ours, theirs, &each.hole, pending)?;
     }
-    None
+    Ok(())
 }
 
-fn head(alloc: Global, unit: &Unit, module: &Name) -> Result<Head, AllocError>
-    ensures { IfOk result (λ r. r ≡ head_of unit.now module.now) }
+fn head(alloc: Global, unit: &Unit, name: &Name) -> Result<Head, AllocError>
+    ensures { IfOk result (λ r. r ≡ head_of unit.now name.now) }
 {
     Ok(Head {
         component: unit.component.copied(alloc)?,
-        module: module.copied(alloc)?,
+        module: name.copied(alloc)?,
     })
 }
 
-/// What is open between two modules of one class.
-fn open_units(
+/// What follows where two modules are of one class: their heads are one, and so are their fills. The answer is two different heads.
+fn compare_units(
     alloc: Global,
-    nodes: &[Node],
     one: &Unit,
-    module: &Name,
+    name: &Name,
     other: &Unit,
-    other_module: &Name,
-) -> Result<Option<Open>, AllocError>
-    ensures { IfOk result (λ r. r ≡ units_open nodes.now one.now module.now other.now other_module.now) }
+    other_name: &Name,
+    pending: &mut Vec<Pair>,
+) -> Result<Option<(Head, Head)>, AllocError>
+    ensures heads { IfOk result (λ r. r ≡ units_heads one.now name.now other.now other_name.now) }
+    ensures pairs { IfOk result (λ r. pending.new.items ≡ pending.old.items ++ units_pairs one.now name.now other.now other_name.now) }
 {
-    if one.component == other.component && *module == *other_module {
-        return Ok(gap_of_fills(nodes, one.fills.as_slice(), other.fills.as_slice()));
+    if one.component == other.component && *name == *other_name {
+        add_pairs(alloc, one.fills.as_slice(), other.fills.as_slice(), pending)?;
+        return Ok(None);
     }
-    Ok(Some(Open::Heads {
-        one: head(alloc, one, module)?,
-        other: head(alloc, other, other_module)?,
-    }))
+    let first = head(alloc, one, name)?;
+    let second = head(alloc, other, other_name)?;
+    Ok(Some((first, second)))
 }
 
-/// What is open between two terms of one class.
+/// What follows where two terms are of one class.
 #[tactic(auto, using(crate::proofs::Opening::opening_equations))]
-fn open_terms(
+fn compare_terms(
     alloc: Global,
-    nodes: &[Node],
     one: &Ident,
     other: &Ident,
-) -> Result<Option<Open>, AllocError>
-    ensures { IfOk result (λ r. r ≡ terms_open nodes.now one.now other.now) }
+    pending: &mut Vec<Pair>,
+) -> Result<Option<(Head, Head)>, AllocError>
+    ensures heads { IfOk result (λ r. r ≡ terms_heads one.now other.now) }
+    ensures pairs { IfOk result (λ r. pending.new.items ≡ pending.old.items ++ terms_pairs one.now other.now) }
 {
     match (one, other) {
         (
-            Ident::Module { unit, module },
+            Ident::Module { unit, module: name },
             Ident::Module {
                 unit: other_unit,
-                module: other_module,
+                module: other_name,
             },
         ) => {
-            let open = open_units(
+            let heads = compare_units(
                 alloc,
-                nodes,
                 unit.get(),
-                module,
+                name,
                 other_unit.get(),
-                other_module,
+                other_name,
+                pending,
             )?;
-            Ok(open)
+            Ok(heads)
         }
         _ => Ok(None),
     }
 }
 
-fn open_pair(
+/// The first module of a class. All of them have one head, and the fills of all wait for one class at each hole.
+fn find_module(nodes: &[Node], class: usize) -> Option<&Ident>
+    ensures { option_copied result ≡ module_at class nodes.now }
+{
+    for node in nodes {
+        if node.class == class && is_of_module(&node.ident) {
+            return Some(&node.ident);
+        }
+    }
+    None
+}
+
+/// What follows where two classes become one: the pairs that are to wait, or two different heads.
+fn compare_classes(
     alloc: Global,
     nodes: &[Node],
-    one: &Node,
-    other: &Node,
-) -> Result<Option<Open>, AllocError>
-    ensures { IfOk result (λ r. r ≡ pair_open nodes.now one.now other.now) }
+    to: usize,
+    from: usize,
+    pending: &mut Vec<Pair>,
+) -> Result<Option<(Head, Head)>, AllocError>
+    ensures heads { IfOk result (λ r. r ≡ modules_heads (module_at to nodes.now) (module_at from nodes.now)) }
+    ensures pairs { IfOk result (λ r. pending.new.items ≡ pending.old.items ++ modules_pairs (module_at to nodes.now) (module_at from nodes.now)) }
 {
-    if one.class == other.class {
-        let open = open_terms(alloc, nodes, &one.ident, &other.ident)?;
-        Ok(open)
-    } else {
-        Ok(None)
+    match find_module(nodes, to) {
+        Some(one) => match find_module(nodes, from) {
+            Some(other) => {
+                let heads = compare_terms(alloc, one, other, pending)?;
+                Ok(heads)
+            }
+            None => Ok(None),
+        },
+        None => Ok(None),
     }
 }
 
-/// What is open between a term and another one of its class.
-fn find_open_with(alloc: Global, nodes: &[Node], one: &Node) -> Result<Option<Open>, AllocError>
-    ensures { IfOk result (λ r. r ≡ open_with nodes.now one.now nodes.now) }
+/// Makes one class of two, which gets the number `to`.
+fn join_classes(
+    alloc: Global,
+    nodes: &mut [Node],
+    to: usize,
+    from: usize,
+    pending: &mut Vec<Pair>,
+) -> Result<Option<(Head, Head)>, AllocError>
+    ensures heads { IfOk result (λ r. r ≡ modules_heads (module_at to nodes.old) (module_at from nodes.old)) }
+    ensures pairs { IfOk result (λ r. pending.new.items ≡ pending.old.items ++ modules_pairs (module_at to nodes.old) (module_at from nodes.old)) }
+    ensures table { IfOk result (λ r. nodes.new ≡ moved from to nodes.old) }
 {
-    for other in nodes {
-        if let Some(open) = open_pair(alloc, nodes, one, other)? {
-            return Ok(Some(open));
+    let heads = compare_classes(alloc, nodes, to, from, pending)?;
+    join(nodes, from, to);
+    Ok(heads)
+}
+
+/// Makes one class of two, which gets the smaller number.
+fn join_sides(
+    alloc: Global,
+    nodes: &mut [Node],
+    left: Option<usize>,
+    right: Option<usize>,
+    pending: &mut Vec<Pair>,
+) -> Result<Option<(Head, Head)>, AllocError>
+    ensures heads { IfOk result (λ r. r ≡ classes_heads left right nodes.old) }
+    ensures pairs { IfOk result (λ r. pending.new.items ≡ pending.old.items ++ classes_pairs left right nodes.old) }
+    ensures table { IfOk result (λ r. nodes.new ≡ classes_moved left right nodes.old) }
+{
+    match (left, right) {
+        (Some(k), Some(l)) => {
+            if k < l {
+                join_classes(alloc, nodes, k, l, pending)
+            } else if l < k {
+                join_classes(alloc, nodes, l, k, pending)
+            } else {
+                Ok(None)
+            }
         }
+        _ => Ok(None),
     }
-    Ok(None)
 }
 
-/// The first thing that keeps the classes from being closed.
-fn find_open(alloc: Global, nodes: &[Node]) -> Result<Option<Open>, AllocError>
-    ensures { IfOk result (λ r. r ≡ first_open nodes.now) }
+/// Makes one class of those of two terms.
+fn join_pair(
+    alloc: Global,
+    nodes: &mut [Node],
+    pair: &Pair,
+    pending: &mut Vec<Pair>,
+) -> Result<Option<(Head, Head)>, AllocError>
+    ensures heads { IfOk result (λ r. r ≡ classes_heads (class_at pair.now.one nodes.old) (class_at pair.now.other nodes.old) nodes.old) }
+    ensures pairs { IfOk result (λ r. pending.new.items ≡ pending.old.items ++ classes_pairs (class_at pair.now.one nodes.old) (class_at pair.now.other nodes.old) nodes.old) }
+    ensures table { IfOk result (λ r. nodes.new ≡ classes_moved (class_at pair.now.one nodes.old) (class_at pair.now.other nodes.old) nodes.old) }
 {
-    for one in nodes {
-        if let Some(open) = find_open_with(alloc, nodes, one)? {
-            return Ok(Some(open));
-        }
-    }
-    Ok(None)
+    let left = class_of(nodes, &pair.one);
+    let right = class_of(nodes, &pair.other);
+    join_sides(alloc, nodes, left, right, pending)
 }
 
-/// One step: joins two classes that are to be one. The answer is what the step met.
-fn close_step(alloc: Global, nodes: &mut [Node]) -> Result<Option<Open>, AllocError>
-    ensures { IfOk result (λ r. (r ≡ first_open nodes.old) × (nodes.new ≡ stepped r nodes.old)) }
+/// The sides of each equation, those of the first one last, where they are taken first.
+fn list_pairs(alloc: Global, equations: &[Equation]) -> Result<Vec<Pair>, AllocError>
+    ensures { IfOk result (λ r. r.items ≡ stated_pairs equations.now) }
 {
-    let open = find_open(alloc, nodes)?;
-    if let Some(Open::Gap { from, to }) = &open {
-        join(nodes, *from, *to);
+    let mut pending = Vec::new(alloc);
+    let mut place = equations.len();
+    while place > 0 {
+        place -= 1;
+        let each = &equations[place];
+        pending.push(Pair {
+            one: each.left.copied(alloc)?,
+            other: each.right.copied(alloc)?,
+        })?;
     }
-    Ok(open)
+    Ok(pending)
 }
 
 /// Makes one class of the sides of each equation, and closes the classes, up to two different heads of one class, which are the
-/// answer. The table has the terms of the equations.
+/// answer. The table has the terms of the equations. Each pair that waits joins two classes or is dropped, and a join looks at one
+/// module of each class: so the work is no more than the square of the size of the equations.
 pub fn close(
     alloc: Global,
     equations: &[Equation],
     nodes: &mut [Node],
 ) -> Result<Option<(Head, Head)>, AllocError>
-    requires { nodes.old ≡ numbered (terms_in equations.now) [] }
+    requires lawful { IsLawful equations.now }
+    requires table { nodes.old ≡ numbered (terms_in equations.now) [] }
     ensures { IfOk result (λ r. Ends equations.now nodes.new r) }
 {
-    join_equations(nodes, equations);
-    'steps: loop {
-        match close_step(alloc, nodes)? {
-            Some(Open::Heads { one, other }) => return Ok(Some((one, other))),
-            Some(Open::Gap { .. }) => {}
-            None => return Ok(None),
+    let mut pending = list_pairs(alloc, equations)?;
+    'steps: while let Some(pair) = pending.pop() {
+        if let Some(heads) = join_pair(alloc, nodes, &pair, &mut pending)? {
+            return Ok(Some(heads));
         }
     }
+    Ok(None)
 }

@@ -6,6 +6,7 @@ mod build;
 mod close;
 mod equation;
 mod laws;
+mod order;
 mod reach;
 mod solve;
 mod table;

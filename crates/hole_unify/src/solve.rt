@@ -28,6 +28,7 @@ pub enum Settlement {
 
 /// Finds the classes of the equations.
 fn settle(alloc: Global, equations: &[Equation]) -> Result<Settlement, AllocError>
+    requires { IsLawful equations.now }
     ensures { IfOk result (λ r. IsSettlement equations.now r) }
 {
     let mut nodes = list_equations(alloc, equations)?;

@@ -1,6 +1,6 @@
 //! The table of the terms that occur in equations, each with the number of its class.
 ghost use Rattle.std.specs.Prelude.{◌≡◌, [], IfOk, OnOk};
-ghost use Rattle.hole_unify.specs.Table.{is_same, class_at, fresh_class, numbered, terms_of, terms_in_fills, terms_in, moved, renumbered, join_at, joined};
+ghost use Rattle.hole_unify.specs.Table.{is_same, is_module, class_at, fresh_class, numbered, terms_of, terms_in_fills, terms_in, moved, renumbered};
 
 use crate::equation::Equation;
 use bp_base::{Fill, Ident, same_ident};
@@ -18,6 +18,17 @@ fn is_one(a: &Ident, b: &Ident) -> bool
     ensures { result ≡ is_same a.now b.now }
 {
     same_ident(a, b)
+}
+
+/// Whether a term is a module.
+#[tactic(auto, using(crate::proofs::Terms::module_equations))]
+pub fn is_of_module(ident: &Ident) -> bool
+    ensures { result ≡ is_module ident.now }
+{
+    match ident {
+        Ident::Hole { .. } => false,
+        Ident::Module { .. } => true,
+    }
 }
 
 /// The class of a term.
@@ -97,24 +108,5 @@ pub fn join(nodes: &mut [Node], from: usize, to: usize)
 {
     for node in nodes.iter_mut() {
         node.class = class_after(node.class, from, to);
-    }
-}
-
-fn join_sides(nodes: &mut [Node], left: Option<usize>, right: Option<usize>)
-    ensures { nodes.new ≡ join_at left right nodes.old }
-{
-    if let (Some(from), Some(to)) = (left, right) {
-        join(nodes, from, to);
-    }
-}
-
-/// Makes one class of the two sides of each equation.
-pub fn join_equations(nodes: &mut [Node], equations: &[Equation])
-    ensures { nodes.new ≡ joined equations.now nodes.old }
-{
-    for each in equations {
-        let left = class_of(nodes, &each.left);
-        let right = class_of(nodes, &each.right);
-        join_sides(nodes, left, right);
     }
 }

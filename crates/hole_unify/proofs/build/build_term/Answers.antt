@@ -1,5 +1,4 @@
-use Rattle.std.proofs.Common.{◌≡◌, ap, ◌∙◌}
-use Rattle.bp_base.specs.declared.ident.Unit.{out-Unit}
+use Rattle.std.proofs.Common.{ap, ◌∙◌}
 use Rattle.hole_unify.specs.Build.{fills_built}
 use Rattle.hole_unify.proofs.Pushing.{module-made}
 use Rattle.hole_unify.proofs.build.build_term.Goals as goal

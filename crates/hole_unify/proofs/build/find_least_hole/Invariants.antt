@@ -1,5 +1,4 @@
-use Rattle.std.proofs.Common.{◌≡◌, ◌++◌, ◌+◌, [], map, drop, List}
-use Rattle.std.specs.Prelude.{None}
+use Rattle.std.proofs.Common.{◌≡◌, map, drop}
 use Rattle.hole_unify.specs.Reach.{least_from}
 use Rattle.hole_unify.specs.Build.{class_hole, least_hole}
 use Rattle.hole_unify.proofs.build.find_least_hole.Given as goal

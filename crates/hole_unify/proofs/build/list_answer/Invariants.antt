@@ -1,6 +1,4 @@
-use Rattle.std.proofs.Common.{◌≡◌, ◌++◌, ◌+◌, [], map, drop, List}
-use Rattle.std.specs.Prelude.{None}
-use Rattle.hole_unify.specs.Reach.{least_from}
+use Rattle.std.proofs.Common.{◌≡◌, [], drop}
 use Rattle.hole_unify.specs.Build.{answer}
 use Rattle.hole_unify.proofs.build.list_answer.Given as goal
 

@@ -1,6 +1,4 @@
-use Rattle.std.proofs.Common.{◌≡◌, ◌++◌, ◌+◌, [], map, drop, List}
-use Rattle.std.specs.Prelude.{None}
-use Rattle.hole_unify.specs.Reach.{least_from}
+use Rattle.std.proofs.Common.{◌≡◌, ◌+◌, drop}
 use Rattle.hole_unify.specs.Build.{place}
 use Rattle.hole_unify.proofs.build.place_of.Given as goal
 

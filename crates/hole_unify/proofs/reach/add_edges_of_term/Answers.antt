@@ -1,4 +1,4 @@
-use Rattle.std.proofs.Common.{◌≡◌, ap, ◌∙◌}
+use Rattle.std.proofs.Common.{ap, ◌∙◌}
 use Rattle.bp_base.specs.declared.ident.Unit.{out-Unit}
 use Rattle.hole_unify.proofs.Opening.{edges-step}
 use Rattle.hole_unify.proofs.reach.add_edges_of_term.Goals as goal

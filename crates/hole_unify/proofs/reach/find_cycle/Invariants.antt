@@ -1,5 +1,4 @@
-use Rattle.std.proofs.Common.{◌≡◌, ◌++◌, [], map, drop}
-use Rattle.std.specs.Prelude.{None}
+use Rattle.std.proofs.Common.{◌≡◌, map, drop}
 use Rattle.hole_unify.specs.Reach.{least_from, hole_cycle, least_cycle}
 use Rattle.hole_unify.proofs.reach.find_cycle.Given as goal
 

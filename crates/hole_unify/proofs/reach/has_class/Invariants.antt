@@ -1,5 +1,4 @@
-use Rattle.std.proofs.Common.{◌≡◌, ◌++◌, [], map, drop}
-use Rattle.std.specs.Prelude.{None}
+use Rattle.std.proofs.Common.{◌≡◌, drop}
 use Rattle.hole_unify.specs.Reach.{holds}
 use Rattle.hole_unify.proofs.reach.has_class.Given as goal
 

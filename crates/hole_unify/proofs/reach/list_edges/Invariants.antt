@@ -1,5 +1,4 @@
-use Rattle.std.proofs.Common.{◌≡◌, ◌++◌, [], map, drop}
-use Rattle.std.specs.Prelude.{None}
+use Rattle.std.proofs.Common.{◌≡◌, ◌++◌, drop}
 use Rattle.hole_unify.specs.Reach.{edges_of}
 use Rattle.hole_unify.proofs.reach.list_edges.Given as goal
 

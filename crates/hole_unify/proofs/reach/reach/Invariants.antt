@@ -1,7 +1,11 @@
-use Rattle.std.proofs.Common.{◌≡◌, ◌++◌, [], map, drop}
-use Rattle.std.specs.Prelude.{None}
-use Rattle.hole_unify.specs.Reach.{reached}
+use Rattle.std.proofs.Common.{◌≡◌, ◌+◌, ◌-◌, length, map}
+use Rattle.hole_unify.specs.Reach.{Agree, free}
+use Rattle.hole_unify.proofs.Searching.{IsSearch}
 use Rattle.hole_unify.proofs.reach.reach.Given as goal
 
-abbrev pub invariant-loop-edge : goal.invariant-loop-edge
-invariant-loop-edge l = reached l.start l.edges l.done.items (drop l._edge-index l.edges) ≡ reached l.start l.edges [] l.edges
+abbrev pub invariant-classes : goal.invariant-classes
+invariant-classes l =
+    IsSearch (map (λ v. v.items) l.ends) l.start l.done.items l.next × Agree l.marks l.done.items × (length l.marks ≡ length l.ends) × (free l.marks + length l.done.items ≡ length l.ends)
+
+abbrev pub decreases-classes : goal.decreases-classes
+decreases-classes l = length l.ends - l.next

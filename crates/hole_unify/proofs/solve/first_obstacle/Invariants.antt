@@ -1,4 +1,4 @@
-use Rattle.std.proofs.Common.{ℕ, ◌-◌}
+use Rattle.std.proofs.Common.{◌-◌}
 use Rattle.hole_unify.specs.Solve.{IsRange}
 use Rattle.hole_unify.proofs.solve.first_obstacle.Given as goal
 

@@ -1,4 +1,4 @@
-use Rattle.std.proofs.Common.{◌≡◌, ap, ◌∙◌, arith}
+use Rattle.std.proofs.Common.{ap, ◌∙◌, arith}
 use Rattle.bp_base.specs.declared.ident.Unit.{out-Unit}
 use Rattle.hole_unify.specs.Table.{fresh_class}
 use Rattle.hole_unify.proofs.Steps.{fills-step, ident-step}
