@@ -10,8 +10,8 @@ use Rattle.backpack_run.specs.Source.{LeadsType, atom_of, LeadsBinding, LeadsIte
 use Rattle.backpack_run.specs.Shape.{is_no_equals, is_no_end, LeadsWords, Ends, LeadsShape, IsBuilt, Holds}
 use Rattle.std.specs.BTreeSet.{BTreeSet}
 use Rattle.backpack_run.proofs.Shaping.{NoShape, ends_run, one_shape}
-use Rattle.hs_core.specs.declared.plain.Atom.{Atom}
-use Rattle.hs_core.specs.declared.plain.Binding.{Binding}
+use Rattle.hs_plain.specs.declared.plain.Atom.{Atom}
+use Rattle.hs_plain.specs.declared.plain.Binding.{Binding}
 
 abbrev Tokens : Type 0
 Tokens = List (List ℕ)

@@ -5,8 +5,8 @@ use Rattle.bp_base.specs.declared.code.Code.TheVariants.{IllTyped}
 use Rattle.bp_base.specs.declared.defect.Defect.{Defect}
 use Rattle.bp_base.specs.declared.defect.Item.TheVariants.{Named}
 use Rattle.bp_edges.specs.declared.files.File.{File}
-use Rattle.hs_core.specs.declared.plain.Binding.{Binding}
-use Rattle.hs_core.specs.declared.plain.PlainModule.{PlainModule}
+use Rattle.hs_plain.specs.declared.plain.Binding.{Binding}
+use Rattle.hs_plain.specs.declared.plain.PlainModule.{PlainModule}
 use Rattle.backpack_run.specs.Counts.{Counts}
 use Rattle.backpack_run.specs.Given.{read_target, typed}
 use Rattle.backpack_run.specs.Refused.{Wrong, defect_at}

@@ -10,8 +10,8 @@ use Rattle.bp_base.specs.declared.defect.Defect.{Defect}
 use Rattle.bp_base.proofs.Checks.{IsExact-then, IsExact-given}
 use Rattle.bp_edges.specs.declared.files.File.{File}
 use Rattle.bp_edges.specs.Files.{content_at}
-use Rattle.hs_core.specs.declared.plain.Binding.{Binding}
-use Rattle.hs_core.specs.declared.plain.PlainModule.{PlainModule}
+use Rattle.hs_plain.specs.declared.plain.Binding.{Binding}
+use Rattle.hs_plain.specs.declared.plain.PlainModule.{PlainModule}
 use Rattle.backpack_run.specs.Given.{named_package, listed_module, target_module, source, read_target, typed, checked_target, text_of, flat_program}
 use Rattle.backpack_run.specs.Lead.{lead_len}
 use Rattle.backpack_run.specs.Lexical.{Leads, skip_blanks, Lexes}

@@ -3,9 +3,9 @@ use Rattle.std.proofs.Common.{◌≡◌, ◌≢◌, ℕ, List, sym, ap, ◌∙�
 use Rattle.bp_base.specs.Lists.{AreDistinct, IsOnly}
 use Rattle.backpack_run.specs.Lexical.{skip_blanks, Lexes}
 use Rattle.backpack_run.specs.Source.{AreItems, all_known, module_tokens, Spells}
-use Rattle.hs_core.specs.Plain.{names_of}
-use Rattle.hs_core.specs.declared.plain.Binding.{Binding}
-use Rattle.hs_core.specs.declared.plain.PlainModule.{PlainModule}
+use Rattle.hs_plain.specs.Plain.{names_of}
+use Rattle.hs_plain.specs.declared.plain.Binding.{Binding}
+use Rattle.hs_plain.specs.declared.plain.PlainModule.{PlainModule}
 
 abbrev Tokens : Type 0
 Tokens = List (List ℕ)

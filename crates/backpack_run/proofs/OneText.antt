@@ -1,9 +1,9 @@
 -- A module has one text.
 use Rattle.std.proofs.Common.{◌≡◌, List, sym, ap, ◌∙◌}
 use Rattle.bp_base.specs.Texts.{Text}
-use Rattle.hs_core.specs.Plain.{names_of}
-use Rattle.hs_core.specs.Text.{text_with, IsFlatText}
-use Rattle.hs_core.specs.declared.plain.PlainModule.{PlainModule}
+use Rattle.hs_plain.specs.Plain.{names_of}
+use Rattle.hs_plain.specs.Text.{text_with, IsFlatText}
+use Rattle.hs_plain.specs.declared.plain.PlainModule.{PlainModule}
 use Rattle.bp_base.proofs.Sorted.{one_order}
 
 pub one_flat_text : (m : PlainModule) (t u : Text) → IsFlatText m t → IsFlatText m u → t ≡ u

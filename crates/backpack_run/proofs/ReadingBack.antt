@@ -15,12 +15,12 @@ use Rattle.backpack_run.specs.ReadBack.{is_flat_char, starts_flat, is_flat_symbo
 use Rattle.backpack_run.proofs.Building.{item_shape, first_item}
 use Rattle.backpack_run.proofs.OneReading.{one_reading}
 use Rattle.backpack_run.proofs.Shaping.{arrows-more}
-use Rattle.hs_core.specs.Text.{flat_name, more_names, name_list, head_line, arrows_text, type_line, args_text, atom_text, atoms_text, clause_line, binding_lines, text_with, IsFlatText}
-use Rattle.hs_core.specs.declared.plain.Atom.{Atom}
-use Rattle.hs_core.specs.declared.plain.Atom.TheVariants.{Number, Argument, Declared}
-use Rattle.hs_core.specs.declared.plain.Binding.{Binding}
-use Rattle.hs_core.specs.declared.plain.PlainModule.{PlainModule}
-use Rattle.hs_core.specs.Plain.{names_of}
+use Rattle.hs_plain.specs.Text.{flat_name, more_names, name_list, head_line, arrows_text, type_line, args_text, atom_text, atoms_text, clause_line, binding_lines, text_with, IsFlatText}
+use Rattle.hs_plain.specs.declared.plain.Atom.{Atom}
+use Rattle.hs_plain.specs.declared.plain.Atom.TheVariants.{Number, Argument, Declared}
+use Rattle.hs_plain.specs.declared.plain.Binding.{Binding}
+use Rattle.hs_plain.specs.declared.plain.PlainModule.{PlainModule}
+use Rattle.hs_plain.specs.Plain.{names_of}
 
 abbrev Tokens : Type 0
 Tokens = List (List ℕ)

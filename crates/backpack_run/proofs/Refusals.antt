@@ -5,7 +5,7 @@ use Rattle.bp_base.specs.Texts.{Text}
 use Rattle.bp_base.specs.declared.code.Code.TheVariants.{ProjectSyntax, ComponentSyntax, Syntax}
 use Rattle.bp_base.specs.declared.defect.Item.TheVariants.{Offset, Line}
 use Rattle.bp_edges.specs.declared.files.File.{File}
-use Rattle.hs_core.specs.declared.plain.PlainModule.{PlainModule}
+use Rattle.hs_plain.specs.declared.plain.PlainModule.{PlainModule}
 use Rattle.backpack_run.specs.Paths.{package_path}
 use Rattle.backpack_run.specs.Project.{IsProject, IsPackage}
 use Rattle.backpack_run.specs.Refused.{Refused as Refusal, Wrong, Passed, defect_at}

@@ -9,7 +9,7 @@ use Rattle.bp_base.proofs.Texts.{same_texts}
 use Rattle.backpack_run.specs.Characters.{is_text}
 use Rattle.backpack_run.specs.Arities.{arrows_in, HoldsArrows}
 use Rattle.backpack_run.proofs.Sets.{tied_same}
-use Rattle.hs_core.specs.declared.plain.Binding.{Binding}
+use Rattle.hs_plain.specs.declared.plain.Binding.{Binding}
 
 -- one value more
 arrows_in-push : (bs : List Binding) (b : Binding) (name : List ℕ)

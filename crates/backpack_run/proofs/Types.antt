@@ -8,9 +8,9 @@ use Rattle.backpack_run.specs.Characters.{is_text}
 use Rattle.bp_base.specs.Lists.{is_among}
 use Rattle.backpack_run.specs.Typing.{Plain, integer, function, Entry, type_in, declared_type, entries_of, AtomHas, Applies, AtomsHave, ClauseHas, IsTyped, AreTyped, IsFirstIll}
 use Rattle.backpack_run.specs.Arities.{arrows_in, atom_arrows, is_no_arrow, is_integer, head_fits, atoms_fit, fits}
-use Rattle.hs_core.specs.declared.plain.Atom.{Atom}
-use Rattle.hs_core.specs.declared.plain.Atom.TheVariants.{Number, Argument, Declared}
-use Rattle.hs_core.specs.declared.plain.Binding.{Binding}
+use Rattle.hs_plain.specs.declared.plain.Atom.{Atom}
+use Rattle.hs_plain.specs.declared.plain.Atom.TheVariants.{Number, Argument, Declared}
+use Rattle.hs_plain.specs.declared.plain.Binding.{Binding}
 
 -- a declared type that is a function takes an `Int`
 record Takes (n : ℕ) (u v : Plain) : Type 0 where

@@ -6,9 +6,9 @@ use Rattle.std.specs.Cmp.Lexicographic.{slice_cmp}
 use Rattle.std.specs.BTreeMap.{BTreeMap, get}
 use Rattle.backpack_run.specs.Characters.{is_text}
 use Rattle.bp_base.specs.Lists.{is_among}
-use Rattle.hs_core.specs.declared.plain.Atom.{Atom}
-use Rattle.hs_core.specs.declared.plain.Atom.TheVariants.{Number, Argument, Declared}
-use Rattle.hs_core.specs.declared.plain.Binding.{Binding}
+use Rattle.hs_plain.specs.declared.plain.Atom.{Atom}
+use Rattle.hs_plain.specs.declared.plain.Atom.TheVariants.{Number, Argument, Declared}
+use Rattle.hs_plain.specs.declared.plain.Binding.{Binding}
 
 -- the arrows of the first value of this name
 abbrev pub arrows_in : List Binding → List ℕ → Option ℕ

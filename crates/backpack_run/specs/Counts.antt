@@ -2,7 +2,7 @@
 use Rattle.std.specs.Prelude.{◌≡◌, ◌⊎◌, ◌≤◌, ◌+◌, ℕ, List, length}
 use Rattle.bp_base.specs.Texts.{Text}
 use Rattle.bp_edges.specs.declared.files.File.{File}
-use Rattle.hs_core.specs.declared.plain.PlainModule.{PlainModule}
+use Rattle.hs_plain.specs.declared.plain.PlainModule.{PlainModule}
 use Rattle.backpack_run.specs.Given.{read_target}
 use Rattle.backpack_run.specs.Refused.{Refused}
 use Rattle.backpack_run.specs.declared.report.Status.{Status}

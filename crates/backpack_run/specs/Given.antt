@@ -6,8 +6,8 @@ use Rattle.bp_base.specs.Texts.{Text}
 use Rattle.bp_base.specs.declared.code.Code.TheVariants.{ProjectSyntax, ComponentSyntax, NoComponent, Syntax, IllTyped}
 use Rattle.bp_base.specs.declared.defect.Item.TheVariants.{Offset, Line, Named}
 use Rattle.bp_edges.specs.declared.files.File.{File}
-use Rattle.hs_core.specs.declared.plain.PlainModule.{PlainModule}
-use Rattle.hs_core.specs.Text.{IsFlatText}
+use Rattle.hs_plain.specs.declared.plain.PlainModule.{PlainModule}
+use Rattle.hs_plain.specs.Text.{IsFlatText}
 use Rattle.backpack_run.specs.Paths.{project_path, package_path, module_path}
 use Rattle.backpack_run.specs.Project.{IsProject, IsPackage}
 use Rattle.backpack_run.specs.Refused.{Refused, Wrong, defect_at}

@@ -5,9 +5,9 @@ use Rattle.bp_base.specs.Lists.{IsOnly}
 use Rattle.backpack_run.specs.Characters.{is_word_char, is_text}
 use Rattle.backpack_run.specs.Lexical.{is_symbol, skip_blanks}
 use Rattle.backpack_run.specs.Source.{AreItems}
-use Rattle.hs_core.specs.Plain.{names_of}
-use Rattle.hs_core.specs.Text.{flat_name}
-use Rattle.hs_core.specs.declared.plain.PlainModule.{PlainModule}
+use Rattle.hs_plain.specs.Plain.{names_of}
+use Rattle.hs_plain.specs.Text.{flat_name}
+use Rattle.hs_plain.specs.declared.plain.PlainModule.{PlainModule}
 
 -- A letter, a digit or a dot. A name with its module before it is one token (Haskell 2010 Report, section 2.4).
 unfoldable pub is_flat_char : ℕ → Bool

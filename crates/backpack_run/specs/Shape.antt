@@ -7,7 +7,7 @@ use Rattle.std.specs.BTreeSet.{BTreeSet, contains}
 use Rattle.bp_base.specs.Lists.{AreDistinct, is_among}
 use Rattle.backpack_run.specs.Characters.{is_text, is_variable_name}
 use Rattle.backpack_run.specs.Source.{LeadsType, atom_of}
-use Rattle.hs_core.specs.declared.plain.Binding.{Binding}
+use Rattle.hs_plain.specs.declared.plain.Binding.{Binding}
 
 -- how many items pass the test before the first one that does not
 abbrev pub run_len : {X : Type 0} → (X → Bool) → List X → ℕ

@@ -1,9 +1,9 @@
 -- Which values of a plain module have their declared types (Haskell 2010 Report, sections 3.2, 3.3 and 4.4.3.1).
 use Rattle.std.specs.Prelude.{◌≡◌, ◌+◌, ℕ, zero, suc, Option, Some, None, List, [], ◌∷◌, ◌++◌, length, map, if◌then◌else◌}
 use Rattle.backpack_run.specs.Characters.{is_text}
-use Rattle.hs_core.specs.declared.plain.Atom.{Atom}
-use Rattle.hs_core.specs.declared.plain.Atom.TheVariants.{Number, Argument, Declared}
-use Rattle.hs_core.specs.declared.plain.Binding.{Binding}
+use Rattle.hs_plain.specs.declared.plain.Atom.{Atom}
+use Rattle.hs_plain.specs.declared.plain.Atom.TheVariants.{Number, Argument, Declared}
+use Rattle.hs_plain.specs.declared.plain.Binding.{Binding}
 use Rattle.backpack_run.specs.declared.typing.TypeError.{TypeError}
 use Rattle.backpack_run.specs.declared.typing.TypeError.TheVariants.{IllTyped, NoMemory}
 

@@ -3,8 +3,8 @@ ghost use Rattle.std.specs.Prelude.{List, ℕ, IsTrue};
 ghost use Rattle.backpack_run.specs.Characters.{is_module_name};
 ghost use Rattle.backpack_run.specs.Source.{Spells};
 ghost use Rattle.backpack_run.specs.ReadBack.{ReadsBack};
-ghost use Rattle.hs_core.specs.Text.{IsFlatText};
-ghost use Rattle.hs_core.specs.declared.plain.PlainModule.{PlainModule};
+ghost use Rattle.hs_plain.specs.Text.{IsFlatText};
+ghost use Rattle.hs_plain.specs.declared.plain.PlainModule.{PlainModule};
 
 /// The flat text of a module that a source spells reads back as the module.
 pub fn flat_text_reads_back()

@@ -5,16 +5,16 @@ ghost use Rattle.bp_base.specs.Lists.{AreDistinct, IsOnly};
 ghost use Rattle.backpack_run.specs.Characters.{is_variable_name};
 ghost use Rattle.backpack_run.specs.Source.{number_of, value_after, atom_of, is_known, all_known, AreItems, Spells};
 ghost use Rattle.backpack_run.specs.Shape.{Holds, IsBuilt};
-ghost use Rattle.hs_core.specs.Plain.{names_of};
-ghost use Rattle.hs_core.specs.declared.plain.Atom.{Atom};
-ghost use Rattle.hs_core.specs.declared.plain.Binding.{Binding};
-ghost use Rattle.hs_core.specs.declared.plain.PlainModule.{PlainModule};
+ghost use Rattle.hs_plain.specs.Plain.{names_of};
+ghost use Rattle.hs_plain.specs.declared.plain.Atom.{Atom};
+ghost use Rattle.hs_plain.specs.declared.plain.Binding.{Binding};
+ghost use Rattle.hs_plain.specs.declared.plain.PlainModule.{PlainModule};
 
 use crate::characters::{all_digits, is_variable_name};
 use crate::lexer::tokens_of;
 use crate::shape::{Shape, is_end, items_of, lead_shape};
 use bp_base::{Bytes, Name, Names};
-use hs_core::{Atom, Atoms, Binding, Bindings, PlainModule};
+use hs_plain::{Atom, Atoms, Binding, Bindings, PlainModule};
 use std::alloc::{AllocError, Global};
 use std::collections::BTreeSet;
 

@@ -3,7 +3,7 @@ ghost use Rattle.std.specs.Prelude.{◌≡◌, ◌<◌};
 use crate::reader::read_module;
 use crate::typing::{TypeError, check_bindings};
 use bp_base::{Bytes, Steps};
-use hs_core::print_module;
+use hs_plain::print_module;
 use std::alloc::{AllocError, Global};
 use std::marker::Brand;
 use std::sync::ledger::{Blank, Ledger};

@@ -4,10 +4,10 @@ ghost use Rattle.std.specs.List.{list_all};
 ghost use Rattle.bp_base.specs.Lists.{is_among};
 ghost use Rattle.backpack_run.specs.Typing.{entries_of, IsTyped, AreTyped, IsFirstIll, OnIll, checked_before};
 ghost use Rattle.backpack_run.specs.Arities.{HoldsArrows, atom_arrows, is_integer, atoms_fit, fits};
-ghost use Rattle.hs_core.specs.declared.plain.Binding.{Binding};
+ghost use Rattle.hs_plain.specs.declared.plain.Binding.{Binding};
 
 use bp_base::{Name, Steps};
-use hs_core::{Atom, Binding};
+use hs_plain::{Atom, Binding};
 use std::alloc::{AllocError, Global};
 use std::collections::BTreeMap;
 use std::sync::ledger::Ledger;

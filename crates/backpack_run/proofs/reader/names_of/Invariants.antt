@@ -1,5 +1,5 @@
 use Rattle.std.proofs.Common.{◌≡◌, take}
-use Rattle.hs_core.specs.Plain.{names_of}
+use Rattle.hs_plain.specs.Plain.{names_of}
 use Rattle.backpack_run.proofs.reader.names_of.Given as goal
 
 abbrev pub invariant-loop-binding : goal.invariant-loop-binding

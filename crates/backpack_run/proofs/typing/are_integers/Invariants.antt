@@ -2,7 +2,7 @@ use Rattle.std.proofs.Common.{◌≡◌, List, drop}
 use Rattle.std.specs.List.{list_all}
 use Rattle.backpack_run.specs.Arities.{HoldsArrows, is_integer}
 use Rattle.backpack_run.proofs.typing.are_integers.Given as goal
-use Rattle.hs_core.specs.declared.plain.Binding.{Binding}
+use Rattle.hs_plain.specs.declared.plain.Binding.{Binding}
 
 abbrev pub invariant-loop-atom : goal.invariant-loop-atom
 invariant-loop-atom l =

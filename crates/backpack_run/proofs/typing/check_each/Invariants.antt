@@ -2,7 +2,7 @@ use Rattle.std.proofs.Common.{◌≡◌, ◌+◌, List, take}
 use Rattle.backpack_run.specs.Typing.{entries_of, AreTyped}
 use Rattle.backpack_run.specs.Arities.{HoldsArrows}
 use Rattle.backpack_run.proofs.typing.check_each.Given as goal
-use Rattle.hs_core.specs.declared.plain.Binding.{Binding}
+use Rattle.hs_plain.specs.declared.plain.Binding.{Binding}
 
 abbrev pub invariant-loop-place : goal.invariant-loop-place
 invariant-loop-place g l =
