@@ -1,0 +1,5 @@
+use Rattle.hs_core.proofs.Twice.{name-twice}
+use Rattle.hs_core.proofs.laws.name_renaming_composes.Goals as goal
+
+pub returns : goal.returns
+returns c = name-twice

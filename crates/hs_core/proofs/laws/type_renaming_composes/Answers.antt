@@ -1,0 +1,5 @@
+use Rattle.hs_core.proofs.Twice.{ty-twice}
+use Rattle.hs_core.proofs.laws.type_renaming_composes.Goals as goal
+
+pub returns : goal.returns
+returns c = ty-twice
