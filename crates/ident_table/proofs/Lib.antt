@@ -1,0 +1,5 @@
+mod Sameness
+mod Nodes
+mod Tables
+mod Written
+mod Numbering
