@@ -1,7 +1,7 @@
 //! Worked equations.
 use super::*;
 use bp_base::{Fill, Name};
-use hole_unify::{Equation, Equations, Head, IdentUnifyError, unify_idents};
+use hole_unify::{Equation, Equations, Head, IdentUnifyError, unify_idents, unify_shared};
 use sqlite_items::Items;
 use std::alloc::{AllocError, Global};
 use std::test::Fail;
@@ -290,5 +290,33 @@ fn two_rows_of_pairs(rt: HostRuntime) -> Result<(), Fail> {
     add(alloc, &mut all, (b"N", b"<B16>", b"q/M"))?;
     let text = outcome(alloc, &all)?;
     assert!(rt; text.as_slice() == b"clash N p/M q/M".as_slice());
+    Ok(())
+}
+
+/// The term of the first hole has 2^41 - 1 identities, and the table holds each of them once.
+#[test]
+fn forty_pairs_are_answered(rt: HostRuntime) -> Result<(), Fail> {
+    let alloc = rt.alloc();
+    let mut all = Items::new(alloc);
+    add_pairs(alloc, &mut all, b'A', 40)?;
+    assert!(rt; are_lawful(alloc, &all)?);
+    let shared = unify_shared(alloc, &all)?;
+    assert!(rt; shared.fills.as_slice().len() == 40);
+    // 41 holes, 40 modules of holes, and 39 modules of what they are filled by
+    assert!(rt; shared.table.len() == 120);
+    Ok(())
+}
+
+#[test]
+fn two_rows_of_forty_pairs(rt: HostRuntime) -> Result<(), Fail> {
+    let alloc = rt.alloc();
+    let mut all = Items::new(alloc);
+    add_pairs(alloc, &mut all, b'A', 40)?;
+    add_pairs(alloc, &mut all, b'B', 40)?;
+    add(alloc, &mut all, (b"T", b"<A00>", b"<B00>"))?;
+    assert!(rt; are_lawful(alloc, &all)?);
+    let shared = unify_shared(alloc, &all)?;
+    // all holes of the second row, and those of the first one but the last
+    assert!(rt; shared.fills.as_slice().len() == 81);
     Ok(())
 }

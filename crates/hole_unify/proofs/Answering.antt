@@ -1,6 +1,6 @@
 -- The fills of the holes are the answer.
 use Rattle.std.proofs.Common.{◌≡◌, ◌≢◌, ℕ, zero, suc, ◌<◌, Bool, true, false, cond, List, [], ◌∷◌, map, ◌⊎◌, inl, inr, refl, ap, sym, ◌∙◌, subst, arith}
-use Rattle.std.specs.Prelude.{Some, None, unwrap_or}
+use Rattle.std.specs.Prelude.{Option, Some, None, unwrap_or}
 use Rattle.std.specs.Str.{bytes_eq}
 use Rattle.std.specs.Ordering.{nat_cmp, ordering_reverse}
 use Rattle.std.specs.Cmp.Lexicographic.{slice_cmp}
@@ -19,11 +19,9 @@ use Rattle.bp_base.proofs.Texts.{same_texts, other_texts, texts_same, tied_texts
 use Rattle.unit_identity.specs.Fill.{found, filled, composed, at_hole}
 use Rattle.unit_identity.proofs.Fills.{filled-Module, filled_unit-out}
 use Rattle.hole_unify.specs.declared.equation.Equation.{Equation}
-use Rattle.hole_unify.specs.declared.table.Node.{Node}
-use Rattle.hole_unify.specs.declared.build.Entry.{Entry}
 use Rattle.hole_unify.specs.Unifiers.{IsUnifier, IsAnswer}
 use Rattle.hole_unify.specs.Causes.{IsLawful, units_in}
-use Rattle.hole_unify.specs.Table.{class_at, is_same, terms_in}
+use Rattle.hole_unify.specs.Table.{Node, class_at, is_same, terms_in}
 use Rattle.hole_unify.specs.Tables.{In, IsTable}
 use Rattle.hole_unify.specs.Close.{IsSettled}
 use Rattle.hole_unify.specs.Build.{built_at, is_less, inserted, put, hole_put, term_put, answer}
@@ -31,12 +29,12 @@ use Rattle.hole_unify.proofs.Terms.{Module-is, Hole-not-Module, same_terms, term
 use Rattle.hole_unify.proofs.Tables.{Some-same, class_at-found}
 use Rattle.hole_unify.proofs.Gaps.{fill-class, one_head, one_fill}
 use Rattle.hole_unify.specs.Stands.{Builds, NoFills, MoreFills, made, IsEntry, Stands}
-use Rattle.hole_unify.proofs.Building.{some-or-none, listed-unit, found-among}
+use Rattle.hole_unify.proofs.Units.{some-or-none, listed-unit, found-among}
 use Rattle.hole_unify.proofs.Unifying.{weight, fill-lighter}
 
 -- ---- fills in order
 
-later : (m n : Text) → is_less (slice_cmp nat_cmp m n) ≡ false → m ≢ n → Before n m
+pub later : (m n : Text) → is_less (slice_cmp nat_cmp m n) ≡ false → m ≢ n → Before n m
 later m n e d = by (slice_cmp nat_cmp m n) refl
   where
     by : (o : Ordering) → slice_cmp nat_cmp m n ≡ o → Before n m
@@ -44,7 +42,7 @@ later m n e d = by (slice_cmp nat_cmp m n) refl
     by Equal p = absurd (d (tied_texts m n p))
     by Greater p = nat_list_cmp_total.antisymm n m ∙ ap ordering_reverse p
 
-earlier : (m n : Text) → is_less (slice_cmp nat_cmp m n) ≡ true → Before m n
+pub earlier : (m n : Text) → is_less (slice_cmp nat_cmp m n) ≡ true → Before m n
 earlier m n e = by (slice_cmp nat_cmp m n) refl
   where
     by : (o : Ordering) → slice_cmp nat_cmp m n ≡ o → Before m n
@@ -75,7 +73,7 @@ rise-inserted-after h f (x ∷ xs) r b e = by (is_less (slice_cmp nat_cmp x.hole
     by true d k = (r.0, k (earlier x.hole f.hole d))
     by false d k = (b, (later x.hole f.hole d (head-apart x xs f.hole e), r.1))
 
-rise-inserted : (f : Fill) (xs : List Fill) → Rise (holes xs) → found f.hole xs ≡ None → Rise (holes (inserted f xs))
+pub rise-inserted : (f : Fill) (xs : List Fill) → Rise (holes xs) → found f.hole xs ≡ None → Rise (holes (inserted f xs))
 rise-inserted f [] r e = tt
 rise-inserted f (x ∷ xs) r e = by (is_less (slice_cmp nat_cmp x.hole f.hole)) refl
   where
@@ -125,7 +123,7 @@ found-inserted-other f n xs d = go xs
 
 -- ---- the fills so far
 
-module _ (nodes : List Node) (built : List Entry) (one : (t : Ident) (k l : ℕ) → In nodes t k → In nodes t l → k ≡ l) where
+module _ (nodes : List Node) (built : List (Option Ident)) (one : (t : Ident) (k l : ℕ) → In nodes t k → In nodes t l → k ≡ l) where
   record IsFills (fs : List Fill) : Type 0 where
     rise : Rise (holes fs)
     only : (n : Text) (t : Ident) → found n fs ≡ Some t → (k : ℕ) × In nodes (Hole n) k × (built_at k built ≡ Some t)
@@ -245,7 +243,7 @@ module _ (nodes : List Node) (built : List Entry) (one : (t : Ident) (k l : ℕ)
             not-hole : (n : Text) → Module' s r m ≡ Hole n → ⊥
             not-hole n e = cc
 
-no-fills : (nodes : List Node) (built : List Entry) (one : (t : Ident) (k l : ℕ) → In nodes t k → In nodes t l → k ≡ l) → IsFills nodes built one []
+no-fills : (nodes : List Node) (built : List (Option Ident)) (one : (t : Ident) (k l : ℕ) → In nodes t k → In nodes t l → k ≡ l) → IsFills nodes built one []
 no-fills nodes built one = record { rise = tt; only = λ n t e. cc; moves = λ n e. cc }
 
 -- ---- the answer
@@ -259,7 +257,7 @@ Hole-name m n e = cc
 hole-found : (n m : Text) (f : List Fill) → found n f ≡ None → at_hole n f ≡ Hole n
 hole-found n m f e = ap (λ o. unwrap_or o (Hole n)) e
 
-module _ (es : List Equation) (lawful : IsLawful es) (nodes : List Node) (s : IsSettled es nodes) (built : List Entry) (st : Stands es nodes built)
+module _ (es : List Equation) (lawful : IsLawful es) (nodes : List Node) (s : IsSettled es nodes) (built : List (Option Ident)) (st : Stands es nodes built)
     (done : (a : Ident) (k : ℕ) → In nodes a k → (t : Ident) × (built_at k built ≡ Some t)) where
   table : IsTable es nodes
   table = s.joined.table

@@ -1,75 +1,58 @@
 -- What is built from closed classes, none of whose holes reaches itself.
-use Rattle.std.proofs.Common.{◌≡◌, ℕ, zero, suc, ◌+◌, ◌<◌, ◌≤◌, Bool, true, false, ◌&&◌, ◌||◌, cond, nat_eq, List, [], ◌∷◌, ◌++◌, map, ◌⊎◌, inl, inr, refl, ap, sym, ◌∙◌, subst, arith}
-use Rattle.std.proofs.lemmas.Bool.{eqb-true, eq-eqb}
-use Rattle.std.specs.Prelude.{Option, Some, None}
+use Rattle.std.proofs.Common.{◌≡◌, ℕ, zero, suc, ◌+◌, ◌<◌, ◌≤◌, Bool, true, false, ◌&&◌, ◌||◌, cond, nat_eq, nat_lt, List, [], ◌∷◌, length, set, map, ◌⊎◌, inl, inr, refl, ap, sym, ◌∙◌, subst, arith}
+use Rattle.std.proofs.lemmas.Bool.{eqb-true, eq-eqb, ltb-true, ltb-false}
+use Rattle.std.proofs.lemmas.List.{get_or-set_same, get_or-set_other, get_or-replicate, get_or_past, length-set, length-replicate}
+use Rattle.std.specs.Prelude.{Option, Some, None, replicate}
 use Rattle.std.specs.Option.{option_or}
-use Rattle.std.specs.Str.{bytes_eq}
 use Rattle.bp_base.specs.declared.ident.Ident.{Ident}
 use Rattle.bp_base.specs.declared.ident.Ident.TheVariants.{Hole, Module, Module'}
-use Rattle.bp_base.specs.declared.ident.Unit.{Unit as OfUnit, Unit', out-Unit}
+use Rattle.bp_base.specs.declared.ident.Unit.{Unit as OfUnit, out-Unit}
 use Rattle.bp_base.specs.declared.ident.Ident.TheViews.{roll-Unit}
 use Rattle.bp_base.specs.declared.ident.Fill.{Fill}
-use Rattle.bp_base.specs.declared.ident.Ident.TheBlock.{end_of-Unit, more_of-Unit, Row_of-Fill, end_of-Fill, more_of-Fill}
+use Rattle.bp_base.specs.declared.ident.Ident.TheBlock.{end_of-Unit, more_of-Unit}
 use Rattle.bp_base.specs.Lists.{Among}
-use Rattle.bp_base.specs.Texts.{Text, Before, Rise, RiseAfter}
-use Rattle.bp_base.proofs.Texts.{same_texts, texts_same, Before-transitive, not_before_itself}
-use Rattle.unit_identity.specs.Fill.{found, filled, composed}
+use Rattle.bp_base.specs.Texts.{Text, Before}
+use Rattle.unit_identity.specs.Fill.{filled, composed}
 use Rattle.unit_identity.proofs.Fills.{filled-Module, filled_unit-out, filled_unit-roll}
 use Rattle.hole_unify.specs.declared.equation.Equation.{Equation}
-use Rattle.hole_unify.specs.declared.table.Node.{Node}
-use Rattle.hole_unify.specs.declared.build.Entry.{Entry}
 use Rattle.hole_unify.specs.Unifiers.{IsUnifier}
-use Rattle.hole_unify.specs.Causes.{units_of, units_below, units_of_row, units_in}
-use Rattle.hole_unify.specs.Table.{class_at, is_module, terms_in, terms_of, terms_below, terms_of_row}
+use Rattle.hole_unify.specs.Table.{Node, class_at, is_module}
 use Rattle.hole_unify.specs.Tables.{In, IsTable}
-use Rattle.hole_unify.specs.Build.{built_at, at_class, ident_built, with_fill, fills_built, module_of, has_module, term_hole, class_hole, least_hole, hole_of, term_ready, entry_of, node_ready, first_ready, class_ready}
+use Rattle.hole_unify.specs.Build.{Entry, built_at, at_class, ident_built, with_fill, fills_built, module_of, has_module, term_hole, class_hole, least_hole, hole_of, term_ready, entry_of, node_ready, first_ready}
 use Rattle.hole_unify.specs.Stands.{Builds, NoFills, MoreFills, made, IsEntry, Stands}
-use Rattle.hole_unify.proofs.Terms.{Module-is, Hole-not-Module, is_module-Module}
-use Rattle.hole_unify.proofs.Tables.{Among-left, Among-right, Among-cases, Among-map, Among-mapped, Some-same, class_at-found, sound-In}
+use Rattle.hole_unify.proofs.Terms.{Module-is, is_module-Module}
+use Rattle.hole_unify.proofs.Tables.{Among-map, Among-mapped, Some-same, class_at-found, sound-In}
+use Rattle.hole_unify.proofs.Units.{not-both, module-of}
 use Rattle.hole_unify.proofs.Reaching.{least-of, least-of-none}
-use Rattle.hole_unify.proofs.Unifying.{Same-filled, Module-unit}
-
--- ---- lists of options
-
-pub some-or-none : {A : Type 0} (o : Option A) → (o ≡ None) ⊎ ((a : A) × (o ≡ Some a))
-some-or-none None = inl refl
-some-or-none (Some a) = inr (a, refl)
-
-pub not-both : {A : Type 0} (o : Option A) (a : A) → o ≡ Some a → o ≡ None → ⊥
-not-both o a p q = let f : Some a ≡ None = sym p ∙ q in cc
+use Rattle.hole_unify.proofs.Unifying.{Same-filled}
 
 -- ---- look-ups in what is built
 
-built-push : (k : ℕ) (built : List Entry) (e : Entry) (t : Ident) → built_at k built ≡ Some t → built_at k (built ++ e ∷ []) ≡ Some t
-built-push k [] e t p = cc
-built-push k (x ∷ xs) e t p = by (nat_eq x.class k) p (built-push k xs e t)
-  where
-    by : (b : Bool) → cond b (Some x.ident) (built_at k xs) ≡ Some t → (built_at k xs ≡ Some t → built_at k (xs ++ e ∷ []) ≡ Some t) → cond b (Some x.ident) (built_at k (xs ++ e ∷ [])) ≡ Some t
-    by true q r = q
-    by false q r = r q
+-- an entry of a class that is not built
+pub record IsNew (built : List (Option Ident)) (k : ℕ) : Type 0 where
+  pub within : k < length built
+  pub none : built_at k built ≡ None
 
-built-pushed : (k : ℕ) (built : List Entry) (e : Entry) (t : Ident) → built_at k (built ++ e ∷ []) ≡ Some t → (built_at k built ≡ Some t) ⊎ ((built_at k built ≡ None) × (e.class ≡ k) × (e.ident ≡ t))
-built-pushed k [] e t p = by (nat_eq e.class k) refl p
+built-put : (k : ℕ) (built : List (Option Ident)) (e : Entry) (t : Ident) → IsNew built e.class → built_at k built ≡ Some t → built_at k (set built e.class (Some e.ident)) ≡ Some t
+built-put k built e t new p = by (nat_eq k e.class) refl
   where
-    by : (b : Bool) → nat_eq e.class k ≡ b → cond b (Some e.ident) None ≡ Some t → (None ≡ Some t) ⊎ ((built_at k [] ≡ None) × (e.class ≡ k) × (e.ident ≡ t))
-    by true d q = inr (refl, eqb-true e.class k d, Some-same e.ident t q)
-    by false d q = inl q
-built-pushed k (x ∷ xs) e t p = by (nat_eq x.class k) p (built-pushed k xs e t)
-  where
-    by : (b : Bool) → cond b (Some x.ident) (built_at k (xs ++ e ∷ [])) ≡ Some t → (built_at k (xs ++ e ∷ []) ≡ Some t → (built_at k xs ≡ Some t) ⊎ ((built_at k xs ≡ None) × (e.class ≡ k) × (e.ident ≡ t)))
-        → (cond b (Some x.ident) (built_at k xs) ≡ Some t) ⊎ ((cond b (Some x.ident) (built_at k xs) ≡ None) × (e.class ≡ k) × (e.ident ≡ t))
-    by true q r = inl q
-    by false q r = r q
+    by : (b : Bool) → nat_eq k e.class ≡ b → built_at k (set built e.class (Some e.ident)) ≡ Some t
+    by true d = absurd (not-both (built_at k built) t p (ap (λ z. built_at z built) (eqb-true k e.class d) ∙ new.none))
+    by false d = get_or-set_other built e.class k (Some e.ident) None (λ is. let f : true ≡ false = sym (eq-eqb k e.class is) ∙ d in cc) ∙ p
 
-built-last : (k : ℕ) (built : List Entry) (t : Ident) → built_at k built ≡ None → built_at k (built ++ record { class = k; ident = t } ∷ []) ≡ Some t
-built-last k [] t p = ap (λ b. cond b (Some t) None) (eq-eqb k k refl)
-built-last k (x ∷ xs) t p = by (nat_eq x.class k) p (built-last k xs t)
+built-after : (k : ℕ) (built : List (Option Ident)) (e : Entry) (t : Ident) → IsNew built e.class → built_at k (set built e.class (Some e.ident)) ≡ Some t → (built_at k built ≡ Some t) ⊎ ((e.class ≡ k) × (e.ident ≡ t))
+built-after k built e t new p = by (nat_eq k e.class) refl
   where
-    by : (b : Bool) → cond b (Some x.ident) (built_at k xs) ≡ None → (built_at k xs ≡ None → built_at k (xs ++ record { class = k; ident = t } ∷ []) ≡ Some t) → cond b (Some x.ident) (built_at k (xs ++ record { class = k; ident = t } ∷ [])) ≡ Some t
-    by true q r = cc
-    by false q r = r q
+    by : (b : Bool) → nat_eq k e.class ≡ b → (built_at k built ≡ Some t) ⊎ ((e.class ≡ k) × (e.ident ≡ t))
+    by true d =
+        let is : k ≡ e.class = eqb-true k e.class d in
+        inr (sym is, Some-same e.ident t (sym (get_or-set_same built e.class (Some e.ident) None new.within) ∙ ap (λ z. built_at z (set built e.class (Some e.ident))) (sym is) ∙ p))
+    by false d = inl (sym (get_or-set_other built e.class k (Some e.ident) None (λ is. let f : true ≡ false = sym (eq-eqb k e.class is) ∙ d in cc)) ∙ p)
 
-module _ (nodes : List Node) (built : List Entry) where
+built-here : (built : List (Option Ident)) (k : ℕ) (t : Ident) → k < length built → built_at k (set built k (Some t)) ≡ Some t
+built-here built k t lt = get_or-set_same built k (Some t) None lt
+
+module _ (nodes : List Node) (built : List (Option Ident)) where
   ident-built : (i t : Ident) → ident_built nodes built i ≡ Some t → (k : ℕ) × (class_at i nodes ≡ Some k) × (built_at k built ≡ Some t)
   ident-built i t = by (class_at i nodes) refl
     where
@@ -97,9 +80,9 @@ module _ (nodes : List Node) (built : List Entry) where
       let rest = all-built fs (λ g h. each g (inr h)) in
       (record { hole = f.hole; ident = first.0 } ∷ rest.0, (λ w. with_fill f.hole (first.1 w) (rest.1 w)))
 
-Builds-push : (nodes : List Node) (built : List Entry) (e : Entry) (fs l : List Fill) → Builds nodes built fs l → Builds nodes (built ++ e ∷ []) fs l
-Builds-push nodes built e fs l NoFills = NoFills
-Builds-push nodes built e fs l (MoreFills f k t gs r p q b) = MoreFills f k t gs r p (built-push k built e t q) (Builds-push nodes built e gs r b)
+Builds-put : (nodes : List Node) (built : List (Option Ident)) (e : Entry) (fs l : List Fill) → IsNew built e.class → Builds nodes built fs l → Builds nodes (set built e.class (Some e.ident)) fs l
+Builds-put nodes built e fs l new NoFills = NoFills
+Builds-put nodes built e fs l new (MoreFills f k t gs r p q b) = MoreFills f k t gs r p (built-put k built e t new q) (Builds-put nodes built e gs r new b)
 
 -- ---- holes and modules of a class
 
@@ -142,10 +125,6 @@ has-module k (y ∷ ys) u m (x, inl e, i, c) =
 has-module k (y ∷ ys) u m (x, inr h, i, c) = true-or (nat_eq y.class k && is_module y.ident) (has_module k ys) (has-module k ys u m (x, h, i, c))
 
 -- a module of a class that has one
-pub module-of : (i : Ident) → is_module i ≡ true → (u : OfUnit) × (m : Text) × (i ≡ Module u m)
-module-of (Hole n) e = cc
-module-of (Module' s (more_of-Unit u end_of-Unit) m) e = (u, m, Module-is s u m)
-
 pub find-module : (k : ℕ) (nodes : List Node) → has_module k nodes ≡ true → (u : OfUnit) × (m : Text) × In nodes (Module u m) k
 find-module k [] e = cc
 find-module k (y ∷ ys) e = by (nat_eq y.class k) (is_module y.ident) refl refl e (find-module k ys)
@@ -157,7 +136,7 @@ find-module k (y ∷ ys) e = by (nat_eq y.class k) (is_module y.ident) refl refl
 
 -- ---- one entry more
 
-ready-is : (nodes : List Node) (built : List Entry) (k : ℕ) (a t : Ident) → In nodes a k → term_ready nodes built k a ≡ Some t → IsEntry nodes built k t
+ready-is : (nodes : List Node) (built : List (Option Ident)) (k : ℕ) (a t : Ident) → In nodes a k → term_ready nodes built k a ≡ Some t → IsEntry nodes built k t
 ready-is nodes built k (Hole n) t p e = by (has_module k nodes) refl
   where
     hole : (o : Option Text) → least_hole k nodes ≡ o → hole_of o ≡ Some t → has_module k nodes ≡ false → IsEntry nodes built k t
@@ -176,12 +155,12 @@ ready-is nodes built k (Module' s (more_of-Unit u end_of-Unit) m) t p e = by (fi
     by (Some l) q = inr (record { unit = u; name = m; fills = l; listed = subst (λ v. In nodes v k) (Module-is s u m) p; builds = fills-build nodes built (out-Unit u).fills l q; is = sym (Some-same (made u l m) t (ap (module_of u m) (sym q) ∙ e)) })
 
 -- a class that is not built, and what it is
-pub record IsReady (nodes : List Node) (built : List Entry) (e : Entry) : Type 0 where
+pub record IsReady (nodes : List Node) (built : List (Option Ident)) (e : Entry) : Type 0 where
   pub new : built_at e.class built ≡ None
   pub is : IsEntry nodes built e.class e.ident
   pub listed : (a : Ident) × In nodes a e.class
 
-node-ready : (nodes : List Node) (built : List Entry) (x : Node) (e : Entry) → Among x nodes → node_ready nodes built x ≡ Some e → IsReady nodes built e
+pub node-ready : (nodes : List Node) (built : List (Option Ident)) (x : Node) (e : Entry) → Among x nodes → node_ready nodes built x ≡ Some e → IsReady nodes built e
 node-ready nodes built x e h = by (built_at x.class built) (term_ready nodes built x.class x.ident) refl refl
   where
     by : (o r : Option Ident) → built_at x.class built ≡ o → term_ready nodes built x.class x.ident ≡ r → entry_of x.class (built_at x.class built) (term_ready nodes built x.class x.ident) ≡ Some e → IsReady nodes built e
@@ -191,7 +170,7 @@ node-ready nodes built x e h = by (built_at x.class built) (term_ready nodes bui
         let is : record { class = x.class; ident = t } ≡ e = Some-same _ e ((λ w. entry_of x.class (sym p w) (sym q w)) ∙ f) in
         subst (IsReady nodes built) is (record { new = p; is = ready-is nodes built x.class x.ident t (x, h, refl, refl) q; listed = (x.ident, (x, h, refl, refl)) })
 
-or-either : {A : Type 0} (a b : Option A) (o : A) → option_or a b ≡ Some o → (a ≡ Some o) ⊎ (b ≡ Some o)
+pub or-either : {A : Type 0} (a b : Option A) (o : A) → option_or a b ≡ Some o → (a ≡ Some o) ⊎ (b ≡ Some o)
 or-either None b o e = inr e
 or-either (Some x) b o e = inl e
 
@@ -199,31 +178,17 @@ or-neither : {A : Type 0} (a b : Option A) → option_or a b ≡ None → (a ≡
 or-neither None b e = (refl, e)
 or-neither (Some x) b e = cc
 
-first-in : (nodes : List Node) (built : List Entry) (rest : List Node) (e : Entry) → ((x : Node) → Among x rest → Among x nodes) → first_ready nodes built rest ≡ Some e → IsReady nodes built e
+first-in : (nodes : List Node) (built : List (Option Ident)) (rest : List Node) (e : Entry) → ((x : Node) → Among x rest → Among x nodes) → first_ready nodes built rest ≡ Some e → IsReady nodes built e
 first-in nodes built [] e inside f = cc
 first-in nodes built (x ∷ rest) e inside f = elim (or-either (node_ready nodes built x) (first_ready nodes built rest) e f) [
   | inl a ↦ node-ready nodes built x e (inside x (inl refl)) a
   | inr b ↦ first-in nodes built rest e (λ y h. inside y (inr h)) b
 ]
 
-pub first-ready : (nodes : List Node) (built : List Entry) (e : Entry) → first_ready nodes built nodes ≡ Some e → IsReady nodes built e
+pub first-ready : (nodes : List Node) (built : List (Option Ident)) (e : Entry) → first_ready nodes built nodes ≡ Some e → IsReady nodes built e
 first-ready nodes built e f = first-in nodes built nodes e (λ x h. h) f
 
-class-in : (k : ℕ) (nodes : List Node) (built : List Entry) (rest : List Node) (e : Entry) → ((x : Node) → Among x rest → Among x nodes) → class_ready k nodes built rest ≡ Some e → IsReady nodes built e
-class-in k nodes built [] e inside f = cc
-class-in k nodes built (x ∷ rest) e inside f = elim (or-either (cond (nat_eq x.class k) (node_ready nodes built x) None) (class_ready k nodes built rest) e f) [
-  | inl a ↦ by (nat_eq x.class k) a
-  | inr b ↦ class-in k nodes built rest e (λ y h. inside y (inr h)) b
-]
-  where
-    by : (b : Bool) → cond b (node_ready nodes built x) None ≡ Some e → IsReady nodes built e
-    by true a = node-ready nodes built x e (inside x (inl refl)) a
-    by false a = cc
-
-pub class-ready : (k : ℕ) (nodes : List Node) (built : List Entry) (e : Entry) → class_ready k nodes built nodes ≡ Some e → IsReady nodes built e
-class-ready k nodes built e f = class-in k nodes built nodes e (λ x h. h) f
-
-pub none-in : (nodes : List Node) (built : List Entry) (rest : List Node) → first_ready nodes built rest ≡ None → (x : Node) → Among x rest → node_ready nodes built x ≡ None
+pub none-in : (nodes : List Node) (built : List (Option Ident)) (rest : List Node) → first_ready nodes built rest ≡ None → (x : Node) → Among x rest → node_ready nodes built x ≡ None
 none-in nodes built [] f x h = absurd h
 none-in nodes built (y ∷ rest) f x h = elim h [
   | inl e ↦ subst (λ z. node_ready nodes built z ≡ None) e (or-neither (node_ready nodes built y) (first_ready nodes built rest) f).0
@@ -232,15 +197,25 @@ none-in nodes built (y ∷ rest) f x h = elim h [
 
 -- ---- what is built keeps
 
-pub no-entries : (es : List Equation) (nodes : List Node) → Stands es nodes []
-no-entries es nodes = record { entries = λ k t e. cc; general = λ g u k a t e p. cc }
+none-at : (n k : ℕ) → built_at k (replicate n None) ≡ None
+none-at n k = by (nat_lt k n) refl
+  where
+    by : (b : Bool) → nat_lt k n ≡ b → built_at k (replicate n None) ≡ None
+    by true d = get_or-replicate n k None None (ltb-true k n d)
+    by false d = get_or_past (replicate n None) k None (let a = ltb-false k n d in let b = length-replicate {A = Option Ident} n None in omega (arith, a, b))
 
-entry-push : (nodes : List Node) (built : List Entry) (e : Entry) (k : ℕ) (t : Ident) → IsEntry nodes built k t → IsEntry nodes (built ++ e ∷ []) k t
-entry-push nodes built e k t (inl h) = inl h
-entry-push nodes built e k t (inr m) = inr (record { unit = m.unit; name = m.name; fills = m.fills; listed = m.listed; builds = Builds-push nodes built e (out-Unit m.unit).fills m.fills m.builds; is = m.is })
+pub no-entries : (es : List Equation) (nodes : List Node) (n : ℕ) → Stands es nodes (replicate n None)
+no-entries es nodes n = record {
+  entries = λ k t e. absurd (not-both (built_at k (replicate n None)) t e (none-at n k));
+  general = λ g u k a t e p. absurd (not-both (built_at k (replicate n None)) t e (none-at n k));
+}
+
+entry-put : (nodes : List Node) (built : List (Option Ident)) (e : Entry) (k : ℕ) (t : Ident) → IsNew built e.class → IsEntry nodes built k t → IsEntry nodes (set built e.class (Some e.ident)) k t
+entry-put nodes built e k t new (inl h) = inl h
+entry-put nodes built e k t new (inr m) = inr (record { unit = m.unit; name = m.name; fills = m.fills; listed = m.listed; builds = Builds-put nodes built e (out-Unit m.unit).fills m.fills new m.builds; is = m.is })
 
 module _ (es : List Equation) (nodes : List Node) (table : IsTable es nodes) where
-  module _ (built : List Entry) (st : Stands es nodes built) (g : List Fill) (u : IsUnifier es g) where
+  module _ (built : List (Option Ident)) (st : Stands es nodes built) (g : List Fill) (u : IsUnifier es g) where
     Builds-filled : (fs l : List Fill) → Builds nodes built fs l → composed l g ≡ composed fs g
     Builds-filled fs l NoFills = refl
     Builds-filled fs l (MoreFills f k t gs r p q b) =
@@ -257,19 +232,22 @@ module _ (es : List Equation) (nodes : List Node) (table : IsTable es nodes) whe
         ∙ sym (filled-Module m.unit m.name g)
         ∙ Same-filled es g u (Module m.unit m.name) a (sound-In es nodes table (Module m.unit m.name) a k m.listed p)
 
-  pub stands-push : (built : List Entry) (e : Entry) → Stands es nodes built → IsReady nodes built e → Stands es nodes (built ++ e ∷ [])
-  stands-push built e st r = record {
-    entries = λ k t p. entry-push nodes built e k t (entries k t (built-pushed k built e t p));
-    general = λ g u k a t p q. general g u k a t (built-pushed k built e t p) q;
+  pub stands-put : (built : List (Option Ident)) (e : Entry) → Stands es nodes built → IsReady nodes built e → e.class < length built → Stands es nodes (set built e.class (Some e.ident))
+  stands-put built e st r lt = record {
+    entries = λ k t p. entry-put nodes built e k t new (entries k t (built-after k built e t new p));
+    general = λ g u k a t p q. general g u k a t (built-after k built e t new p) q;
   }
     where
-      entries : (k : ℕ) (t : Ident) → (built_at k built ≡ Some t) ⊎ ((built_at k built ≡ None) × (e.class ≡ k) × (e.ident ≡ t)) → IsEntry nodes built k t
-      entries k t (inl p) = st.entries k t p
-      entries k t (inr (n, c, i)) = subst (λ x. IsEntry nodes built x t) c (subst (λ x. IsEntry nodes built e.class x) i r.is)
+      new : IsNew built e.class
+      new = record { within = lt; none = r.new }
 
-      general : (g : List Fill) → IsUnifier es g → (k : ℕ) (a t : Ident) → (built_at k built ≡ Some t) ⊎ ((built_at k built ≡ None) × (e.class ≡ k) × (e.ident ≡ t)) → In nodes a k → filled t g ≡ filled a g
+      entries : (k : ℕ) (t : Ident) → (built_at k built ≡ Some t) ⊎ ((e.class ≡ k) × (e.ident ≡ t)) → IsEntry nodes built k t
+      entries k t (inl p) = st.entries k t p
+      entries k t (inr (c, i)) = subst (λ x. IsEntry nodes built x t) c (subst (λ x. IsEntry nodes built e.class x) i r.is)
+
+      general : (g : List Fill) → IsUnifier es g → (k : ℕ) (a t : Ident) → (built_at k built ≡ Some t) ⊎ ((e.class ≡ k) × (e.ident ≡ t)) → In nodes a k → filled t g ≡ filled a g
       general g u k a t (inl p) q = st.general g u k a t p q
-      general g u k a t (inr (n, c, i)) q = ap (λ x. filled x g) (sym i) ∙ entry-filled built st g u e.class a e.ident r.is (subst (λ x. In nodes a x) (sym c) q)
+      general g u k a t (inr (c, i)) q = ap (λ x. filled x g) (sym i) ∙ entry-filled built st g u e.class a e.ident r.is (subst (λ x. In nodes a x) (sym c) q)
 
 -- ---- building ends
 
@@ -278,97 +256,57 @@ missing None = 1
 missing (Some t) = 0
 
 -- how many nodes are not built
-pub unbuilt : List Node → List Entry → ℕ
+pub unbuilt : List Node → List (Option Ident) → ℕ
 unbuilt [] built = 0
 unbuilt (x ∷ xs) built = missing (built_at x.class built) + unbuilt xs built
 
-missing-less : (built : List Entry) (e : Entry) (k : ℕ) → missing (built_at k (built ++ e ∷ [])) ≤ missing (built_at k built)
+missing-less : (built : List (Option Ident)) (e : Entry) (k : ℕ) → IsNew built e.class → missing (built_at k (set built e.class (Some e.ident))) ≤ missing (built_at k built)
 unfolding missing
-missing-less built e k = by (built_at k built) refl (built_at k (built ++ e ∷ [])) refl
+missing-less built e k new = by (built_at k built) refl (built_at k (set built e.class (Some e.ident))) refl
   where
-    by : (o : Option Ident) → built_at k built ≡ o → (r : Option Ident) → built_at k (built ++ e ∷ []) ≡ r → missing (built_at k (built ++ e ∷ [])) ≤ missing (built_at k built)
-    by (Some t) p r q = let x : missing (built_at k (built ++ e ∷ [])) ≡ 0 = ap missing (built-push k built e t p) in omega (arith, x)
-    by None p (Some t) q = let x : missing (built_at k (built ++ e ∷ [])) ≡ 0 = ap missing q in omega (arith, x)
-    by None p None q = let x : missing (built_at k (built ++ e ∷ [])) ≡ 1 = ap missing q in let y : missing (built_at k built) ≡ 1 = ap missing p in omega (arith, x, y)
+    by : (o : Option Ident) → built_at k built ≡ o → (r : Option Ident) → built_at k (set built e.class (Some e.ident)) ≡ r → missing (built_at k (set built e.class (Some e.ident))) ≤ missing (built_at k built)
+    by (Some t) p r q = let x : missing (built_at k (set built e.class (Some e.ident))) ≡ 0 = ap missing (built-put k built e t new p) in omega (arith, x)
+    by None p (Some t) q = let x : missing (built_at k (set built e.class (Some e.ident))) ≡ 0 = ap missing q in omega (arith, x)
+    by None p None q = let x : missing (built_at k (set built e.class (Some e.ident))) ≡ 1 = ap missing q in let y : missing (built_at k built) ≡ 1 = ap missing p in omega (arith, x, y)
 
-unbuilt-less : (nodes : List Node) (built : List Entry) (e : Entry) → unbuilt nodes (built ++ e ∷ []) ≤ unbuilt nodes built
+unbuilt-less : (nodes : List Node) (built : List (Option Ident)) (e : Entry) → IsNew built e.class → unbuilt nodes (set built e.class (Some e.ident)) ≤ unbuilt nodes built
 unfolding unbuilt
-unbuilt-less [] built e = omega arith
-unbuilt-less (x ∷ xs) built e = let a = missing-less built e x.class in let b = unbuilt-less xs built e in omega (arith, a, b)
+unbuilt-less [] built e new = omega arith
+unbuilt-less (x ∷ xs) built e new = let a = missing-less built e x.class new in let b = unbuilt-less xs built e new in omega (arith, a, b)
 
-unbuilt-falls : (nodes : List Node) (built : List Entry) (e : Entry) (a : Ident) → In nodes a e.class → built_at e.class built ≡ None → unbuilt nodes (built ++ e ∷ []) < unbuilt nodes built
+unbuilt-falls : (nodes : List Node) (built : List (Option Ident)) (e : Entry) (a : Ident) → In nodes a e.class → IsNew built e.class → unbuilt nodes (set built e.class (Some e.ident)) < unbuilt nodes built
 unfolding unbuilt missing
 unbuilt-falls [] built e a (x, h, i, c) n = absurd h
 unbuilt-falls (y ∷ ys) built e a (x, inl is, i, c) n =
     let class : y.class ≡ e.class = ap (λ v. v.class) is ∙ c in
-    let old : missing (built_at y.class built) ≡ 1 = ap missing (ap (λ k. built_at k built) class ∙ n) in
-    let new : missing (built_at y.class (built ++ e ∷ [])) ≡ 0 = ap missing (ap (λ k. built_at k (built ++ e ∷ [])) class ∙ built-last e.class built e.ident n) in
-    let b = unbuilt-less ys built e in omega (arith, old, new, b)
-unbuilt-falls (y ∷ ys) built e a (x, inr h, i, c) n = let p = missing-less built e y.class in let q = unbuilt-falls ys built e a (x, h, i, c) n in omega (arith, p, q)
+    let old : missing (built_at y.class built) ≡ 1 = ap missing (ap (λ k. built_at k built) class ∙ n.none) in
+    let new : missing (built_at y.class (set built e.class (Some e.ident))) ≡ 0 = ap missing (ap (λ k. built_at k (set built e.class (Some e.ident))) class ∙ built-here built e.class e.ident n.within) in
+    let b = unbuilt-less ys built e n in omega (arith, old, new, b)
+unbuilt-falls (y ∷ ys) built e a (x, inr h, i, c) n = let p = missing-less built e y.class n in let q = unbuilt-falls ys built e a (x, h, i, c) n in omega (arith, p, q)
 
-pub ready-falls : (nodes : List Node) (built : List Entry) (e : Entry) → IsReady nodes built e → unbuilt nodes (built ++ e ∷ []) < unbuilt nodes built
-ready-falls nodes built e r = unbuilt-falls nodes built e r.listed.0 r.listed.1 r.new
+pub ready-falls : (nodes : List Node) (built : List (Option Ident)) (e : Entry) → IsReady nodes built e → e.class < length built → unbuilt nodes (set built e.class (Some e.ident)) < unbuilt nodes built
+ready-falls nodes built e r lt = unbuilt-falls nodes built e r.listed.0 r.listed.1 (record { within = lt; none = r.new })
+
+-- the class of a ready entry has a place
+ready-within : (es : List Equation) (nodes : List Node) → IsTable es nodes → (built : List (Option Ident)) (e : Entry) → length built ≡ length nodes → IsReady nodes built e → e.class < length built
+ready-within es nodes table built e len r = let p = r.listed.1 in let lt = table.below p.0 p.1 in let c = p.3 in omega (arith, lt, c, len)
 
 -- building comes to an end
-pub build-ends : (es : List Equation) (nodes : List Node) → IsTable es nodes → (n : ℕ) (built : List Entry) → unbuilt nodes built ≤ n → Stands es nodes built → (all : List Entry) × Stands es nodes all × (first_ready nodes all nodes ≡ None)
-build-ends es nodes table zero built le st = by (first_ready nodes built nodes) refl
+pub build-ends : (es : List Equation) (nodes : List Node) → IsTable es nodes → (n : ℕ) (built : List (Option Ident)) → length built ≡ length nodes → unbuilt nodes built ≤ n → Stands es nodes built
+    → (all : List (Option Ident)) × Stands es nodes all × (first_ready nodes all nodes ≡ None)
+build-ends es nodes table zero built len le st = by (first_ready nodes built nodes) refl
   where
-    by : (o : Option Entry) → first_ready nodes built nodes ≡ o → (all : List Entry) × Stands es nodes all × (first_ready nodes all nodes ≡ None)
+    by : (o : Option Entry) → first_ready nodes built nodes ≡ o → (all : List (Option Ident)) × Stands es nodes all × (first_ready nodes all nodes ≡ None)
     by None e = (built, st, e)
-    by (Some x) e = absurd (let f = ready-falls nodes built x (first-ready nodes built x e) in omega (arith, f, le))
-build-ends es nodes table (suc n) built le st = by (first_ready nodes built nodes) refl (λ b l s. build-ends es nodes table n b l s)
+    by (Some x) e =
+        let ready = first-ready nodes built x e in
+        absurd (let f = ready-falls nodes built x ready (ready-within es nodes table built x len ready) in omega (arith, f, le))
+build-ends es nodes table (suc n) built len le st = by (first_ready nodes built nodes) refl (λ b k l s. build-ends es nodes table n b k l s)
   where
-    by : (o : Option Entry) → first_ready nodes built nodes ≡ o → ((b : List Entry) → unbuilt nodes b ≤ n → Stands es nodes b → (all : List Entry) × Stands es nodes all × (first_ready nodes all nodes ≡ None)) → (all : List Entry) × Stands es nodes all × (first_ready nodes all nodes ≡ None)
+    by : (o : Option Entry) → first_ready nodes built nodes ≡ o → ((b : List (Option Ident)) → length b ≡ length nodes → unbuilt nodes b ≤ n → Stands es nodes b → (all : List (Option Ident)) × Stands es nodes all × (first_ready nodes all nodes ≡ None))
+        → (all : List (Option Ident)) × Stands es nodes all × (first_ready nodes all nodes ≡ None)
     by None e r = (built, st, e)
     by (Some x) e r =
         let ready = first-ready nodes built x e in
-        r (built ++ x ∷ []) (let f = ready-falls nodes built x ready in omega (arith, f, le)) (stands-push es nodes table built x st ready)
-
--- ---- where nothing is ready, all is built
-
--- the units of listed terms are units of the equations
-mutual
-  term-unit : (a : Ident) (u : OfUnit) (m : Text) → Among (Module u m) (terms_of a) → Among u (units_of a)
-  term-unit (Hole n) u m (inl e) = absurd (Hole-not-Module n u m e)
-  term-unit (Hole n) u m (inr h) = absurd h
-  term-unit (Module' s (more_of-Unit v end_of-Unit) n) u m (inl e) = inl (Module-unit v u n m e)
-  term-unit (Module' s (more_of-Unit v end_of-Unit) n) u m (inr h) = inr (unit-unit v u m h)
-
-  unit-unit : (v u : OfUnit) (m : Text) → Among (Module u m) (terms_below v) → Among u (units_below v)
-  unit-unit (Unit' c s r) u m h = row-unit r u m h
-
-  row-unit : {k : _} (r : Row_of-Fill k) (u : OfUnit) (m : Text) → Among (Module u m) (terms_of_row r) → Among u (units_of_row r)
-  row-unit end_of-Fill u m h = absurd h
-  row-unit (more_of-Fill n i r) u m h = elim (Among-cases (Module u m) (terms_of i) (terms_of_row r) h) [
-    | inl a ↦ Among-left u (units_of i) _ (term-unit i u m a)
-    | inr b ↦ Among-right u (units_of i) _ (row-unit r u m b)
-  ]
-
-pub listed-unit : (es : List Equation) (u : OfUnit) (m : Text) → Among (Module u m) (terms_in es) → Among u (units_in es)
-listed-unit [] u m h = absurd h
-listed-unit (x ∷ es) u m h = elim (Among-cases (Module u m) (terms_of x.left) _ h) [
-  | inl a ↦ Among-left u (units_of x.left) _ (term-unit x.left u m a)
-  | inr r ↦ Among-right u (units_of x.left) _ (elim (Among-cases (Module u m) (terms_of x.right) _ r) [
-    | inl b ↦ Among-left u (units_of x.right) _ (term-unit x.right u m b)
-    | inr c ↦ Among-right u (units_of x.right) _ (listed-unit es u m c)
-  ])
-]
-
--- rising fills are found
-before-all : (h : Text) (fs : List Fill) (f : Fill) → RiseAfter h (map (λ x. x.hole) fs) → Among f fs → Before h f.hole
-before-all h [] f r a = absurd a
-before-all h (x ∷ fs) f r (inl e) = subst (λ z. Before h z.hole) e r.0
-before-all h (x ∷ fs) f r (inr a) = Before-transitive h x.hole f.hole r.0 (before-all x.hole fs f r.1 a)
-
-rise-rest : (h : Text) (l : List Text) → RiseAfter h l → Rise l
-rise-rest h [] r = tt
-rise-rest h (n ∷ l) r = r.1
-
-pub found-among : (fs : List Fill) (f : Fill) → Rise (map (λ x. x.hole) fs) → Among f fs → found f.hole fs ≡ Some f.ident
-found-among [] f r a = absurd a
-found-among (x ∷ fs) f r (inl e) = ap (λ b. cond b (Some x.ident) (found f.hole fs)) (subst (λ z. bytes_eq x.hole z.hole ≡ true) e (texts_same x.hole)) ∙ ap (λ z. Some z.ident) e
-found-among (x ∷ fs) f r (inr a) = by (bytes_eq x.hole f.hole) refl (found-among fs f (rise-rest x.hole _ r) a)
-  where
-    by : (b : Bool) → bytes_eq x.hole f.hole ≡ b → found f.hole fs ≡ Some f.ident → cond b (Some x.ident) (found f.hole fs) ≡ Some f.ident
-    by true d k = absurd (not_before_itself f.hole (subst (λ z. Before z f.hole) (same_texts x.hole f.hole d) (before-all x.hole fs f r a)))
-    by false d k = k
+        let lt = ready-within es nodes table built x len ready in
+        r (set built x.class (Some x.ident)) (length-set built x.class (Some x.ident) ∙ len) (let f = ready-falls nodes built x ready lt in omega (arith, f, le)) (stands-put es nodes table built x st ready lt)

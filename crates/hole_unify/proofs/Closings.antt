@@ -1,6 +1,7 @@
--- One step of closing.
+-- Closing: what a step keeps, and that the steps end.
 use Rattle.std.proofs.Common.{◌≡◌, ◌≢◌, ℕ, zero, suc, ◌+◌, ◌<◌, ◌≤◌, Bool, true, false, ◌&&◌, cond, nat_eq, nat_lt, List, [], ◌∷◌, ◌++◌, length, map, ◌⊎◌, inl, inr, refl, sym, ap, ◌∙◌, subst, arith, length-append, append-nil}
 use Rattle.std.proofs.lemmas.Bool.{eqb-true, eq-eqb, ltb-true, ltb-false}
+use Rattle.std.proofs.lemmas.List.{map-append}
 use Rattle.std.specs.Prelude.{Option, Some, None, option_to_list}
 use Rattle.std.specs.Str.{bytes_eq}
 use Rattle.bp_base.specs.declared.ident.Ident.{Ident}
@@ -14,19 +15,20 @@ use Rattle.bp_base.proofs.Texts.{same_texts, other_texts}
 use Rattle.unit_identity.specs.Fill.{found}
 use Rattle.hole_unify.specs.declared.equation.Equation.{Equation}
 use Rattle.hole_unify.specs.declared.equation.Head.{Head}
-use Rattle.hole_unify.specs.declared.table.Node.{Node}
-use Rattle.hole_unify.specs.declared.close.Pair.{Pair}
+use Rattle.hole_unify.specs.declared.pair.NumberPair.{NumberPair}
+use Rattle.ident_table.specs.Numbers.{ident_of, IsIdentTable}
 use Rattle.hole_unify.specs.Causes.{IsLawful, holes_of}
 use Rattle.hole_unify.specs.Classes.{Same, Stated, Turned, Joined, AtHole, HasHeads, head_of}
-use Rattle.hole_unify.specs.Table.{class_at, is_module, moved, numbered, terms_in}
+use Rattle.hole_unify.specs.Table.{Node, HasTerms, class_at, is_module, moved, nodes_of, terms_in, upto}
 use Rattle.hole_unify.specs.Tables.{In, One, IsTable}
-use Rattle.hole_unify.specs.Close.{fill_pair, fills_pairs, units_pairs, units_heads, terms_pairs, terms_heads, module_at, modules_pairs, modules_heads, classes_pairs, classes_heads, classes_moved, stated_pairs, IsSettled}
+use Rattle.hole_unify.specs.Close.{Pair, fill_pair, fills_pairs, units_pairs, units_heads, terms_pairs, terms_heads, module_at, modules_pairs, modules_heads, classes_pairs, classes_heads, classes_moved, stated_pairs, IsSettled, pair_of, pairs_of, ArePairsBelow}
 use Rattle.hole_unify.proofs.Unifying.{Module-unit, Module-name}
 use Rattle.hole_unify.proofs.Terms.{is_module-Module}
-use Rattle.hole_unify.proofs.Tables.{Among-left, Among-right, Among-cases, Some-same, class_at-found, first-table, first-apart, renumbered-cases, In-unmoved, One-moved, One-joined, sound-In, moved-table, listed-class, left-listed, right-listed, fill-listed}
+use Rattle.hole_unify.proofs.Tables.{Among-left, Among-right, Among-cases, Some-same, class_at-found, renumbered-cases, In-unmoved, One-moved, One-joined, sound-In, moved-table, listed-class, left-listed, right-listed, fill-listed}
 use Rattle.hole_unify.proofs.Opening.{terms_pairs-Modules, terms_heads-Modules}
 use Rattle.hole_unify.proofs.Gaps.{total, moved-falls}
-use Rattle.hole_unify.proofs.Building.{listed-unit, module-of}
+use Rattle.hole_unify.proofs.Units.{listed-unit, module-of}
+use Rattle.hole_unify.proofs.Numbering.{first-table, first-apart}
 
 -- ---- what two units of one component have at a hole
 
@@ -183,17 +185,17 @@ among-stated (x ∷ es) p h = elim (Among-cases p (stated_pairs es) _ h) [
   | inr b ↦ elim b [ inl is ↦ (x, inl refl, is) | inr n ↦ absurd n ]
 ]
 
-pub closing-start : (es : List Equation) → IsClosing es (numbered (terms_in es) []) (stated_pairs es)
-closing-start es = record {
-  table = first-table es;
+pub closing-start : (es : List Equation) (table : List Ident) → IsIdentTable table → HasTerms es table → IsClosing es (nodes_of table (upto (length table))) (stated_pairs es)
+closing-start es table t terms = record {
+  table = first-table es table t terms;
   sound = λ p h. let r = among-stated es p h in subst (λ z. Same es z.one z.other) r.2 (Stated r.0 r.1);
   listed = λ p h. let r = among-stated es p h in subst (λ z. Among z.one (terms_in es) × Among z.other (terms_in es)) r.2 (left-listed es r.0 r.1, right-listed es r.0 r.1);
   stated = λ e h. Waits (record { one = e.left; other = e.right }) (stated-among es e h);
-  heads = λ u v m n k p q. let e = first-apart es (Module u m) (Module v n) k p q in (ap (λ z. (out-Unit z).component) (Module-unit u v m n e), Module-name u v m n e);
+  heads = λ u v m n k p q. let e = first-apart table (Module u m) (Module v n) k p q in (ap (λ z. (out-Unit z).component) (Module-unit u v m n e), Module-name u v m n e);
   fills = λ u v m n h k i j p q f g.
-      let e = Module-unit u v m n (first-apart es (Module u m) (Module v n) k p q) in
+      let e = Module-unit u v m n (first-apart table (Module u m) (Module v n) k p q) in
       let is : i ≡ j = Some-same i j (sym f ∙ ap (λ z. found h (out-Unit z).fills) e ∙ g) in
-      subst (λ z. Linked (numbered (terms_in es) []) (stated_pairs es) i z) is (Equal i);
+      subst (λ z. Linked (nodes_of table (upto (length table))) (stated_pairs es) i z) is (Equal i);
 }
 
 -- ---- at the end
@@ -547,32 +549,61 @@ step-falls nodes rest p =
     let s = length-append rest (p ∷ []) in
     omega (arith, f, s)
 
--- ---- the loop
+-- ---- the loop, over numbers
 
-pub started : (es : List Equation) (nodes : List Node) (pending : List Pair) → nodes ≡ numbered (terms_in es) [] → pending ≡ stated_pairs es → IsClosing es nodes pending
-started es nodes pending is made = subst (λ z. IsClosing es z pending) (sym is) (subst (IsClosing es (numbered (terms_in es) [])) (sym made) (closing-start es))
+-- closing goes on for all equations whose terms and sides these are
+abbrev pub AreClosing : List Ident → List NumberPair → List ℕ → List NumberPair → Type 0
+AreClosing table pairs classes pending = (es : List Equation) → IsLawful es → HasTerms es table → pairs_of table pairs ≡ stated_pairs es → IsClosing es (nodes_of table classes) (pairs_of table pending)
 
-pub ended : (es : List Equation) (nodes : List Node) (pending : List Pair) → IsClosing es nodes pending → length pending ≡ 0 → IsSettled es nodes
-ended es nodes [] c e = closing-end es nodes c
-ended es nodes (p ∷ pending) c e = absurd (omega (arith, e))
+pub started : (table : List Ident) (pairs : List NumberPair) (classes : List ℕ) → IsIdentTable table → classes ≡ upto (length table) → AreClosing table pairs classes pairs
+started table pairs classes t is es lawful terms stated =
+    subst (λ z. IsClosing es (nodes_of table z) (pairs_of table pairs)) (sym is) (subst (IsClosing es (nodes_of table (upto (length table)))) (sym stated) (closing-start es table t terms))
+
+pub ended : (table : List Ident) (pairs : List NumberPair) (classes : List ℕ) (pending : List NumberPair) → AreClosing table pairs classes pending → length pending ≡ 0
+    → (es : List Equation) → IsLawful es → HasTerms es table → pairs_of table pairs ≡ stated_pairs es → IsSettled es (nodes_of table classes)
+ended table pairs classes [] c e es lawful terms stated = closing-end es (nodes_of table classes) (c es lawful terms stated)
+ended table pairs classes (p ∷ pending) c e es lawful terms stated = absurd (omega (arith, e))
 
 -- what was taken off
-taken : (old rest : List Pair) (r : Option Pair) (p : Pair) → old ≡ rest ++ option_to_list r → r ≡ Some p → old ≡ rest ++ p ∷ []
-taken old rest r p e is = e ∙ ap (λ o. rest ++ option_to_list o) is
+taken-number : (old rest : List NumberPair) (r : Option NumberPair) (p : NumberPair) → old ≡ rest ++ option_to_list r → r ≡ Some p → old ≡ rest ++ p ∷ []
+taken-number old rest r p e is = e ∙ ap (λ o. rest ++ option_to_list o) is
 
-pub clash-met : (es : List Equation) → IsLawful es → (nodes : List Node) (old rest : List Pair) (r : Option Pair) (p : Pair) (o : Option (Head × Head)) (h : Head × Head) → IsClosing es nodes old → old ≡ rest ++ option_to_list r → r ≡ Some p
-    → o ≡ Some h → o ≡ classes_heads (class_at p.one nodes) (class_at p.other nodes) nodes → HasHeads es h.0 h.1
-clash-met es lawful nodes old rest r p o h c e is some heads = step-clash es lawful nodes rest p (subst (IsClosing es nodes) (taken old rest r p e is) c) h (sym some ∙ heads)
+taken : (table : List Ident) (old rest : List NumberPair) (r : Option NumberPair) (p : NumberPair) → old ≡ rest ++ option_to_list r → r ≡ Some p → pairs_of table old ≡ pairs_of table rest ++ pair_of table p ∷ []
+taken table old rest r p e is = ap (pairs_of table) (taken-number old rest r p e is) ∙ map-append (pair_of table) rest (p ∷ [])
 
-pub step-met : (es : List Equation) → IsLawful es → (nodes new : List Node) (old rest then : List Pair) (r : Option Pair) (p : Pair) (o : Option (Head × Head)) → IsClosing es nodes old → old ≡ rest ++ option_to_list r → r ≡ Some p
-    → o ≡ None → o ≡ classes_heads (class_at p.one nodes) (class_at p.other nodes) nodes → then ≡ rest ++ classes_pairs (class_at p.one nodes) (class_at p.other nodes) nodes → new ≡ classes_moved (class_at p.one nodes) (class_at p.other nodes) nodes
-    → IsClosing es new then
-step-met es lawful nodes new old rest then r p o c e is none heads pairs table =
-    subst (λ z. IsClosing es z then) (sym table) (subst (IsClosing es (classes_moved (class_at p.one nodes) (class_at p.other nodes) nodes)) (sym pairs)
-    (step-closing es lawful nodes rest p (subst (IsClosing es nodes) (taken old rest r p e is) c) (sym none ∙ heads)))
+pub taken-below : (n : ℕ) (old rest : List NumberPair) (r : Option NumberPair) (p : NumberPair) → ArePairsBelow n old → old ≡ rest ++ option_to_list r → r ≡ Some p → (p.one < n) × (p.other < n)
+taken-below n old rest r p b e is = subst (ArePairsBelow n) (taken-number old rest r p e is) b p (Among-right p rest (p ∷ []) (inl refl))
 
-pub step-less : (nodes new : List Node) (old rest then : List Pair) (r : Option Pair) (p : Pair) → old ≡ rest ++ option_to_list r → r ≡ Some p
-    → then ≡ rest ++ classes_pairs (class_at p.one nodes) (class_at p.other nodes) nodes → new ≡ classes_moved (class_at p.one nodes) (class_at p.other nodes) nodes → measure new then < measure nodes old
-step-less nodes new old rest then r p e is pairs table =
-    subst (λ z. measure z then < measure nodes old) (sym table) (subst (λ z. measure (classes_moved (class_at p.one nodes) (class_at p.other nodes) nodes) z < measure nodes old) (sym pairs)
-    (subst (λ z. measure (classes_moved (class_at p.one nodes) (class_at p.other nodes) nodes) (rest ++ classes_pairs (class_at p.one nodes) (class_at p.other nodes) nodes) < measure nodes z) (sym (taken old rest r p e is)) (step-falls nodes rest p)))
+pub rest-below : (n : ℕ) (old rest : List NumberPair) (r : Option NumberPair) (p : NumberPair) → ArePairsBelow n old → old ≡ rest ++ option_to_list r → r ≡ Some p → ArePairsBelow n rest
+rest-below n old rest r p b e is q h = subst (ArePairsBelow n) (taken-number old rest r p e is) b q (Among-left q rest (p ∷ []) h)
+
+-- the classes of a pair
+abbrev left_of : List Ident → List ℕ → NumberPair → Option ℕ
+left_of table classes p = class_at (ident_of table p.one) (nodes_of table classes)
+
+abbrev right_of : List Ident → List ℕ → NumberPair → Option ℕ
+right_of table classes p = class_at (ident_of table p.other) (nodes_of table classes)
+
+module _ (table : List Ident) (classes : List ℕ) (old rest : List NumberPair) (r : Option NumberPair) (p : NumberPair) (e : old ≡ rest ++ option_to_list r) (is : r ≡ Some p) where
+  at-pair : (pairs : List NumberPair) → AreClosing table pairs classes old → (es : List Equation) → IsLawful es → HasTerms es table → pairs_of table pairs ≡ stated_pairs es → IsClosing es (nodes_of table classes) (pairs_of table rest ++ pair_of table p ∷ [])
+  at-pair pairs c es lawful terms stated = subst (IsClosing es (nodes_of table classes)) (taken table old rest r p e is) (c es lawful terms stated)
+
+  pub clash-met : (pairs : List NumberPair) → AreClosing table pairs classes old → (o : Option (Head × Head)) (h : Head × Head) → o ≡ Some h → o ≡ classes_heads (left_of table classes p) (right_of table classes p) (nodes_of table classes)
+      → (es : List Equation) → IsLawful es → HasTerms es table → pairs_of table pairs ≡ stated_pairs es → HasHeads es h.0 h.1
+  clash-met pairs c o h some heads es lawful terms stated =
+      step-clash es lawful (nodes_of table classes) (pairs_of table rest) (pair_of table p) (at-pair pairs c es lawful terms stated) h (sym some ∙ heads)
+
+  module _ (new : List ℕ) (then : List NumberPair) (made : pairs_of table then ≡ pairs_of table rest ++ classes_pairs (left_of table classes p) (right_of table classes p) (nodes_of table classes))
+      (joins : nodes_of table new ≡ classes_moved (left_of table classes p) (right_of table classes p) (nodes_of table classes)) where
+    pub step-met : (pairs : List NumberPair) → AreClosing table pairs classes old → (o : Option (Head × Head)) → o ≡ None → o ≡ classes_heads (left_of table classes p) (right_of table classes p) (nodes_of table classes) → AreClosing table pairs new then
+    step-met pairs c o none heads es lawful terms stated =
+        subst (λ z. IsClosing es z (pairs_of table then)) (sym joins)
+        (subst (IsClosing es (classes_moved (left_of table classes p) (right_of table classes p) (nodes_of table classes))) (sym made)
+        (step-closing es lawful (nodes_of table classes) (pairs_of table rest) (pair_of table p) (at-pair pairs c es lawful terms stated) (sym none ∙ heads)))
+
+    pub step-less : measure (nodes_of table new) (pairs_of table then) < measure (nodes_of table classes) (pairs_of table old)
+    step-less =
+        subst (λ z. measure z (pairs_of table then) < measure (nodes_of table classes) (pairs_of table old)) (sym joins)
+        (subst (λ z. measure (classes_moved (left_of table classes p) (right_of table classes p) (nodes_of table classes)) z < measure (nodes_of table classes) (pairs_of table old)) (sym made)
+        (subst (λ z. measure (classes_moved (left_of table classes p) (right_of table classes p) (nodes_of table classes)) (pairs_of table rest ++ classes_pairs (left_of table classes p) (right_of table classes p) (nodes_of table classes)) < measure (nodes_of table classes) z) (sym (taken table old rest r p e is))
+        (step-falls (nodes_of table classes) (pairs_of table rest) (pair_of table p))))

@@ -10,7 +10,7 @@ use Rattle.bp_base.specs.Texts.{Text}
 use Rattle.unit_identity.specs.Fill.{found}
 use Rattle.hole_unify.specs.declared.equation.Equation.{Equation}
 use Rattle.hole_unify.specs.declared.equation.Head.{Head}
-use Rattle.hole_unify.specs.declared.table.Node.{Node}
+use Rattle.hole_unify.specs.Table.{Node}
 use Rattle.hole_unify.specs.Classes.{Same, HasHeads, head_of}
 use Rattle.hole_unify.specs.Table.{class_at, renumbered, moved, terms_in}
 use Rattle.hole_unify.specs.Tables.{In, One, IsTable}

@@ -1,7 +1,7 @@
 -- Where no hole reaches itself, every class can be built.
 use Rattle.std.proofs.Common.{◌≡◌, ℕ, zero, suc, ◌<◌, ◌≤◌, Bool, true, false, cond, nat_eq, List, [], ◌∷◌, length, map, ◌⊎◌, inl, inr, refl, ap, sym, ◌∙◌, subst, arith}
 use Rattle.std.proofs.lemmas.Bool.{eqb-true, eq-eqb}
-use Rattle.std.specs.Prelude.{Some, None}
+use Rattle.std.specs.Prelude.{Option, Some, None}
 use Rattle.bp_base.specs.declared.ident.Ident.{Ident}
 use Rattle.bp_base.specs.declared.ident.Ident.TheVariants.{Hole, Module, Module'}
 use Rattle.bp_base.specs.declared.ident.Unit.{Unit as OfUnit, out-Unit}
@@ -11,10 +11,8 @@ use Rattle.bp_base.specs.Lists.{Among}
 use Rattle.bp_base.specs.Texts.{Text}
 use Rattle.unit_identity.specs.Fill.{found}
 use Rattle.hole_unify.specs.declared.equation.Equation.{Equation}
-use Rattle.hole_unify.specs.declared.table.Node.{Node}
-use Rattle.hole_unify.specs.declared.build.Entry.{Entry}
 use Rattle.hole_unify.specs.Causes.{IsLawful}
-use Rattle.hole_unify.specs.Table.{class_at, terms_in}
+use Rattle.hole_unify.specs.Table.{Node, class_at, terms_in}
 use Rattle.hole_unify.specs.Tables.{In, IsTable}
 use Rattle.hole_unify.specs.Close.{IsSettled}
 use Rattle.hole_unify.specs.Reach.{edges_of}
@@ -23,11 +21,12 @@ use Rattle.hole_unify.proofs.Terms.{Module-is}
 use Rattle.hole_unify.proofs.Tables.{class_at-found, Among-map}
 use Rattle.hole_unify.proofs.Gaps.{fill-class}
 use Rattle.hole_unify.proofs.Reaching.{Path, First, Then, edge-has}
-use Rattle.hole_unify.proofs.Building.{some-or-none, not-both, all-built, least-hole, no-least, find-module, none-in, listed-unit, found-among}
+use Rattle.hole_unify.proofs.Building.{all-built, least-hole, no-least, find-module, none-in}
+use Rattle.hole_unify.proofs.Units.{some-or-none, not-both, listed-unit, found-among}
 use Rattle.hole_unify.proofs.Unifying.{weight, fill-lighter}
 use denote.Hole.Carrier.{hidden}
 
-pub term_ready-Module : (nodes : List Node) (built : List Entry) (z : ℕ) (v : OfUnit) (y : Text) → term_ready nodes built z (Module v y) ≡ module_of v y (fills_built nodes built (out-Unit v).fills)
+pub term_ready-Module : (nodes : List Node) (built : List (Option Ident)) (z : ℕ) (v : OfUnit) (y : Text) → term_ready nodes built z (Module v y) ≡ module_of v y (fills_built nodes built (out-Unit v).fills)
 unfolding hidden-the_row-Unit-0 hidden
 term_ready-Module nodes built z v y = refl
 
@@ -78,7 +77,7 @@ without-falls k (n ∷ ns) (inr h) = by (nat_eq n k) (without-falls k ns h)
     by true h = omega (arith, h)
     by false h = omega (arith, h)
 
-module _ (es : List Equation) (lawful : IsLawful es) (nodes : List Node) (s : IsSettled es nodes) (acyclic : IsAcyclic nodes) (built : List Entry) (stuck : first_ready nodes built nodes ≡ None) where
+module _ (es : List Equation) (lawful : IsLawful es) (nodes : List Node) (s : IsSettled es nodes) (acyclic : IsAcyclic nodes) (built : List (Option Ident)) (stuck : first_ready nodes built nodes ≡ None) where
   table : IsTable es nodes
   table = s.joined.table
 

@@ -3,12 +3,12 @@ use Rattle.std.proofs.Common.{◌≡◌, ℕ, List, [], ◌++◌, refl, sym, ap,
 use Rattle.std.specs.Prelude.{None}
 use Rattle.bp_base.specs.declared.ident.Ident.{Ident}
 use Rattle.bp_base.specs.declared.ident.Fill.{Fill}
-use Rattle.hole_unify.specs.declared.reach.Edge.{Edge}
+use Rattle.hole_unify.specs.declared.edge.Edge.{Edge}
 use Rattle.bp_base.specs.declared.ident.Ident.TheVariants.{Hole, Module}
 use Rattle.bp_base.specs.declared.ident.Unit.{Unit as OfUnit, out-Unit}
 use Rattle.bp_base.specs.declared.ident.Ident.TheBlock.{hidden-the_row-Unit-0}
 use Rattle.bp_base.specs.Texts.{Text}
-use Rattle.hole_unify.specs.declared.table.Node.{Node}
+use Rattle.hole_unify.specs.Table.{Node}
 use Rattle.hole_unify.specs.Close.{units_pairs, units_heads, terms_pairs, terms_heads}
 use Rattle.hole_unify.specs.Reach.{fills_edges, term_edges}
 use denote.Hole.Carrier.{hidden}

@@ -18,8 +18,8 @@ use Rattle.bp_base.specs.Texts.{Text, Before}
 use Rattle.bp_base.proofs.Texts.{same_texts, tied_texts, Before-transitive, not_before_itself}
 use Rattle.unit_identity.specs.Fill.{found}
 use Rattle.hole_unify.specs.declared.equation.Equation.{Equation}
-use Rattle.hole_unify.specs.declared.table.Node.{Node}
-use Rattle.hole_unify.specs.declared.reach.Edge.{Edge}
+use Rattle.hole_unify.specs.Table.{Node}
+use Rattle.hole_unify.specs.declared.edge.Edge.{Edge}
 use Rattle.hole_unify.specs.Classes.{Same, Itself, Reaches, Next, Through}
 use Rattle.hole_unify.specs.Table.{class_at}
 use Rattle.hole_unify.specs.Tables.{In, IsTable}

@@ -4,20 +4,16 @@ use Rattle.std.proofs.Math.ListN.{get_or-append, get_or-map}
 use Rattle.std.proofs.Math.Seq.{get_or-append_seam}
 use Rattle.std.proofs.lemmas.List.{take_more, take_all, take-append-le, get_or-set_same, get_or-set_other, length-set, get_or-replicate, length-replicate, length-map}
 use Rattle.std.proofs.lemmas.Bool.{eqb-true, eq-eqb}
-use Rattle.std.specs.Prelude.{Option, replicate}
+use Rattle.std.specs.Prelude.{Option, Some, slice_get, replicate}
 use Rattle.bp_base.specs.Texts.{Text}
-use Rattle.hole_unify.specs.declared.table.Node.{Node}
+use Rattle.bp_base.specs.declared.ident.Ident.{Ident}
+use Rattle.hole_unify.specs.Table.{nodes_of}
 use Rattle.bp_base.specs.Lists.{Among}
-use Rattle.hole_unify.specs.declared.reach.Edge.{Edge}
-use Rattle.hole_unify.specs.Reach.{ends_of, ends_upto, free, AreBelow, Agree, visited, all_visited, IsReached, holds, on_cycle, lesser, least_from, hole_cycle}
-use Rattle.hole_unify.proofs.Tables.{Among-left, Among-right, Among-cases}
-use Rattle.hole_unify.proofs.Steps.{front_of}
+use Rattle.hole_unify.specs.declared.edge.Edge.{Edge}
+use Rattle.hole_unify.specs.Reach.{ends_of, ends_upto, free, AreBelow, Agree, visited, all_visited, IsReached, holds, on_cycle, lesser, least_from, term_cycle, hole_cycle}
+use Rattle.hole_unify.proofs.Tables.{Among-left, Among-right, Among-cases, Among-get_or, Among-read}
+use Rattle.hole_unify.proofs.Edges.{nodes-front, nodes-end}
 use Rattle.hole_unify.proofs.Reaching.{Path, First, Then, holds-says, holds-has, path-cycle, cycle-path}
-
-pub among-get : {A : Type 0} (xs : List A) (i : ℕ) (x : A) → i < length xs → x ≡ get_or xs i x → Among x xs
-among-get [] i x lt is = absurd (omega (arith, lt))
-among-get (y ∷ xs) zero x lt is = inl (sym is)
-among-get (y ∷ xs) (suc i) x lt is = inr (among-get xs i x (omega (arith, lt)) is)
 
 -- ---- the ends of edges
 
@@ -53,11 +49,11 @@ ends-say k (x ∷ es) n h = by (nat_eq x.from k) refl h (λ g. more (ends-say k 
     by true d (inr g) r = r g
     by false d g r = r g
 
-upto-length : (n : ℕ) (es : List Edge) → length (ends_upto n es) ≡ n
+pub upto-length : (n : ℕ) (es : List Edge) → length (ends_upto n es) ≡ n
 upto-length zero es = refl
 upto-length (suc n) es = let s = length-append (ends_upto n es) (ends_of n es ∷ []) in let r = upto-length n es in omega (arith, s, r)
 
-upto-at : (n : ℕ) (es : List Edge) (i : ℕ) (d : List ℕ) → i < n → get_or (ends_upto n es) i d ≡ ends_of i es
+pub upto-at : (n : ℕ) (es : List Edge) (i : ℕ) (d : List ℕ) → i < n → get_or (ends_upto n es) i d ≡ ends_of i es
 upto-at zero es i d lt = absurd (omega (arith, lt))
 upto-at (suc n) es i d lt = by (nat_eq i n) refl (upto-at n es i d)
   where
@@ -219,7 +215,7 @@ pub search-start : (lists : List (List ℕ)) (start : ℕ) (ks : List ℕ) → A
 search-start lists start ks under lt at = record {
   sound = λ es is n h. sound es is n (all-says ks [] n h);
   closed = λ es is e a o. closed es is e a o;
-  below = λ n h. elim (all-says ks [] n h) [ inl b ↦ absurd b | inr b ↦ under ks (among-get lists start ks lt at) n b ];
+  below = λ n h. elim (all-says ks [] n h) [ inl b ↦ absurd b | inr b ↦ under ks (Among-read lists start ks lt at) n b ];
   within = omega arith;
 }
   where
@@ -238,12 +234,12 @@ pub search-step : (lists : List (List ℕ)) (start : ℕ) (done : List ℕ) (nex
 search-step lists start done next class ks under s lt is at = record {
   sound = λ es l n h. sound es l n (all-says ks done n h);
   closed = λ es l e a o. closed es l e a o;
-  below = λ n h. elim (all-says ks done n h) [ inl b ↦ s.below n b | inr b ↦ under ks (among-get lists class ks (s.below class (among-get done next class lt is)) at) n b ];
+  below = λ n h. elim (all-says ks done n h) [ inl b ↦ s.below n b | inr b ↦ under ks (Among-read lists class ks (s.below class (Among-read done next class lt is)) at) n b ];
   within = let a = all-longer ks done in omega (arith, a, lt);
 }
   where
     here : Among class done
-    here = among-get done next class lt is
+    here = Among-read done next class lt is
 
     sound : (es : List Edge) → lists ≡ ends_upto (length lists) es → (n : ℕ) → Among n done ⊎ Among n ks → Path es start n
     sound es l n (inl h) = s.sound es l n h
@@ -292,11 +288,6 @@ free-pushed marks done new n lt e is =
     let l = ap length is in
     let s = length-append done (n ∷ []) in omega (arith, f, l, s)
 
-pub among-at : (xs : List ℕ) (i d : ℕ) → i < length xs → Among (get_or xs i d) xs
-among-at [] i d lt = absurd (omega (arith, lt))
-among-at (y ∷ xs) zero d lt = inl refl
-among-at (y ∷ xs) (suc i) d lt = inr (among-at xs i d (omega (arith, lt)))
-
 -- within a list the default does not matter
 same-get : {A : Type 0} (xs : List A) (i : ℕ) (d e : A) → i < length xs → get_or xs i d ≡ get_or xs i e
 same-get [] i d e lt = absurd (omega (arith, lt))
@@ -307,10 +298,10 @@ pub item-at : {A : Type 0} (f : A → List ℕ) (l : List A) (i : ℕ) (x : A) (
 item-at f l i x rows lt is made = made ∙ item-ends f l i x is ∙ same-get (map f l) i (f x) [] (let m = length-map l f in omega (arith, m, lt))
 
 pub rows-below : (lists : List (List ℕ)) (i : ℕ) (ks : List ℕ) (c : ℕ) → AreBelow c lists → i < length lists → ks ≡ get_or lists i [] → (n : ℕ) → Among n ks → n < c
-rows-below lists i ks c under lt at n a = under ks (among-get lists i ks lt (at ∙ same-get lists i [] ks lt)) n a
+rows-below lists i ks c under lt at n a = under ks (Among-read lists i ks lt (at ∙ same-get lists i [] ks lt)) n a
 
 pub class-below : (lists : List (List ℕ)) (start : ℕ) (done rows : List ℕ) (next : ℕ) → IsSearch lists start done next → next < length done → rows ≡ done → get_or rows next 0 < length lists
-class-below lists start done rows next s lt is = s.below (get_or rows next 0) (subst (λ z. Among (get_or z next 0) done) (sym is) (among-at done next 0 lt))
+class-below lists start done rows next s lt is = s.below (get_or rows next 0) (subst (λ z. Among (get_or z next 0) done) (sym is) (Among-get_or done next 0 lt))
 
 pub search-started : (lists : List (List ℕ)) (start : ℕ) (ks old done : List ℕ) → AreBelow (length lists) lists → start < length lists → ks ≡ get_or lists start [] → old ≡ [] → done ≡ all_visited old ks → IsSearch lists start done 0
 search-started lists start ks old done under lt at none is =
@@ -332,19 +323,24 @@ pub find-below : {A : Type 0} (f : A → List ℕ) (rows l : List A) (n : ℕ) (
 find-below f rows l n es same is below =
     subst (λ z. AreBelow (length z) (map f z)) (sym same) (subst (λ k. AreBelow k (map f l)) (sym (lists-length f l n es is)) (lists-below (map f l) n es is below))
 
-pub find-class : {A : Type 0} (f : A → List ℕ) (rows l : List A) (es : List Edge) (nodes : List Node) (i : ℕ) (x : Node) → rows ≡ l → map f l ≡ ends_upto (length nodes) es
-    → ((x : Node) → Among x nodes → x.class < length nodes) → i < length nodes → x ≡ get_or nodes i x → x.class < length rows
-find-class f rows l es nodes i x same is classes lt at =
-    let c = classes x (among-get nodes i x lt at) in
-    let m = lists-length f l (length nodes) es is in
+pub find-class : {A : Type 0} (f : A → List ℕ) (rows l : List A) (es : List Edge) (classes : List ℕ) (i : ℕ) → rows ≡ l → map f l ≡ ends_upto (length classes) es
+    → ((k : ℕ) → Among k classes → k < length classes) → i < length classes → get_or classes i 0 < length rows
+find-class f rows l es classes i same is below lt =
+    let c = below (get_or classes i 0) (Among-get_or classes i 0 lt) in
+    let m = lists-length f l (length classes) es is in
     let r = ap length same in omega (arith, c, m, r)
 
 pub find-ends : {A : Type 0} (f : A → List ℕ) (rows l : List A) (n : ℕ) (es : List Edge) → rows ≡ l → map f l ≡ ends_upto n es → map f rows ≡ ends_upto (length rows) es
 find-ends f rows l n es same is =
     subst (λ z. map f z ≡ ends_upto (length z) es) (sym same) (is ∙ ap (λ k. ends_upto k es) (sym (lists-length f l n es is)))
 
-pub find-step : (edges : List Edge) (nodes : List Node) (i : ℕ) (x : Node) (best new then last : Option Text) → i < length nodes → x ≡ get_or nodes i x → new ≡ hole_cycle edges x → then ≡ lesser best new
-    → least_from best (map (hole_cycle edges) (drop i nodes)) ≡ last → least_from then (map (hole_cycle edges) (drop (i + 1) nodes)) ≡ last
-find-step edges nodes i x best new then last lt is made less so =
-    ap (λ z. least_from z (map (hole_cycle edges) (drop (i + 1) nodes))) (less ∙ ap (lesser best) made)
-    ∙ ap (λ l. least_from best (map (hole_cycle edges) l)) (sym (front_of nodes i x lt is)) ∙ so
+pub find-step : (edges : List Edge) (table : List Ident) (classes : List ℕ) (i : ℕ) (t : Ident) (best new then last : Option Text) → length classes ≡ length table → slice_get table i ≡ Some t
+    → new ≡ term_cycle edges (get_or classes i 0) t → then ≡ lesser best new → least_from best (map (hole_cycle edges) (drop i (nodes_of table classes))) ≡ last
+    → least_from then (map (hole_cycle edges) (drop (i + 1) (nodes_of table classes))) ≡ last
+find-step edges table classes i t best new then last l at made less so =
+    ap (λ z. least_from z (map (hole_cycle edges) (drop (i + 1) (nodes_of table classes)))) (less ∙ ap (lesser best) made)
+    ∙ ap (λ z. least_from best (map (hole_cycle edges) z)) (sym (nodes-front table classes i t l at)) ∙ so
+
+pub find-end : (edges : List Edge) (table : List Ident) (classes : List ℕ) (i : ℕ) (best last : Option Text) → length classes ≡ length table → length table ≤ i
+    → least_from best (map (hole_cycle edges) (drop i (nodes_of table classes))) ≡ last → best ≡ last
+find-end edges table classes i best last l le so = ap (λ z. least_from best (map (hole_cycle edges) z)) (sym (nodes-end table classes i l le)) ∙ so

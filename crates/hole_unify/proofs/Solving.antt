@@ -1,77 +1,50 @@
 -- From closed classes to unifiers and to obstacles.
-use Rattle.std.proofs.Common.{◌≡◌, ℕ, ◌+◌, ◌-◌, ◌/◌, ◌<◌, ◌≤◌, Bool, true, false, cond, List, [], ◌∷◌, ◌++◌, length, get_or, take, drop, append-nil, map, inl, inr, refl, ap, sym, ◌∙◌, subst, arith}
-use Rattle.std.specs.Prelude.{Option, Some, None}
+use Rattle.std.proofs.Common.{◌≡◌, ℕ, ◌+◌, ◌-◌, ◌/◌, ◌<◌, ◌≤◌, List, [], ◌∷◌, ◌++◌, length, get_or, take, drop, map, inl, inr, refl, ap, sym, ◌∙◌, subst, arith}
+use Rattle.std.specs.Prelude.{Option, None, replicate}
+use Rattle.std.proofs.lemmas.List.{take-append-drop, take_more, take_all, length-replicate}
 use Rattle.bp_base.specs.declared.ident.Ident.{Ident}
-use Rattle.bp_base.specs.declared.ident.Ident.TheVariants.{Hole, Module'}
 use Rattle.bp_base.specs.declared.ident.Unit.{Unit as OfUnit}
 use Rattle.bp_base.specs.Lists.{Among}
 use Rattle.bp_base.specs.Texts.{Text}
-use Rattle.bp_base.specs.declared.ident.Fill.{Fill}
+use Rattle.ident_table.specs.declared.node.NumberFill.{NumberFill}
+use Rattle.ident_table.specs.Numbers.{Grows, fills_of}
 use Rattle.hole_unify.specs.declared.equation.Equation.{Equation}
-use Rattle.hole_unify.specs.declared.equation.Head.{Head}
-use Rattle.hole_unify.specs.declared.table.Node.{Node}
-use Rattle.hole_unify.specs.declared.reach.Edge.{Edge}
-use Rattle.hole_unify.specs.declared.build.Entry.{Entry}
 use Rattle.hole_unify.specs.declared.solve.Obstacle.{Obstacle}
 use Rattle.hole_unify.specs.declared.solve.Obstacle.TheVariants.{Clash, Cycle}
-use Rattle.hole_unify.specs.Unifiers.{HasUnifier, IsAnswer}
-use Rattle.hole_unify.specs.Classes.{HasHeads, IsLeastCycle}
-use Rattle.hole_unify.specs.Causes.{FailsAt, IsCause, IsLawful, units_of, units_in}
-use Rattle.hole_unify.specs.Tables.{In, IsTable}
-use Rattle.hole_unify.specs.Close.{IsSettled}
-use Rattle.hole_unify.specs.Reach.{edges_of, on_cycle, term_cycle, hole_cycle, least_cycle}
-use Rattle.hole_unify.specs.Build.{first_ready, answer}
-use Rattle.hole_unify.specs.Stands.{Stands}
 use Rattle.hole_unify.specs.declared.solve.Range.{Range}
-use Rattle.hole_unify.specs.Solve.{IsObstacle, IsFirst, IsRange, labelled}
-use Rattle.std.proofs.lemmas.List.{take-append-drop, take_more, take_all, drop_all}
-use Rattle.hole_unify.proofs.Tables.{Among-left, Among-right, Among-cases, Among-map, Among-mapped, Some-same, class_at-found}
-use Rattle.hole_unify.proofs.Gaps.{settled-heads}
-use Rattle.hole_unify.proofs.Reaching.{edge-says, path-cycle, cycle-listed, listed-cycle, least-of, least-of-none}
+use Rattle.hole_unify.specs.Unifiers.{HasUnifier, IsAnswer}
+use Rattle.hole_unify.specs.Causes.{FailsAt, IsCause, IsLawful, units_of, units_in}
+use Rattle.hole_unify.specs.Table.{Node, nodes_of}
+use Rattle.hole_unify.specs.Tables.{IsTable}
+use Rattle.hole_unify.specs.Close.{IsSettled}
+use Rattle.hole_unify.specs.Reach.{edges_of, hole_cycle, least_cycle}
+use Rattle.hole_unify.specs.Build.{built_of, first_ready, answer}
+use Rattle.hole_unify.specs.Stands.{Stands}
+use Rattle.hole_unify.specs.Solve.{IsFree, IsObstacle, IsFirst, IsRange, labelled}
+use Rattle.hole_unify.proofs.Tables.{Among-left, Among-right, Among-cases}
+use Rattle.hole_unify.proofs.Reaching.{path-cycle, least-of-none}
+use Rattle.hole_unify.proofs.Settling.{cycle-among}
+use Rattle.hole_unify.proofs.Places.{nodes-later}
 use Rattle.hole_unify.proofs.Building.{build-ends, no-entries, unbuilt}
 use Rattle.hole_unify.proofs.Grounded.{IsAcyclic, all-done}
 use Rattle.hole_unify.proofs.Answering.{is-answer}
 use Rattle.hole_unify.proofs.Unifying.{clash_has_no_unifier, cycle_has_no_unifier}
 
--- ---- holes on cycles
-
-term-cycle : (all : List Edge) (k : ℕ) (i : Ident) (n : Text) → term_cycle all k i ≡ Some n → (i ≡ Hole n) × (on_cycle k all ≡ true)
-term-cycle all k (Module' s r m) n e = cc
-term-cycle all k (Hole m) n e = by (on_cycle k all) refl
-  where
-    by : (b : Bool) → on_cycle k all ≡ b → (Hole m ≡ Hole n) × (on_cycle k all ≡ true)
-    by true d = (ap Hole (Some-same m n (ap (λ b. cond b (Some m) None) (sym d) ∙ e)), d)
-    by false d = let f : None ≡ Some n = ap (λ b. cond b (Some m) None) (sym d) ∙ e in cc
-
-cycle-among : (all : List Edge) (nodes : List Node) (n : Text) (k : ℕ) → In nodes (Hole n) k → on_cycle k all ≡ true → Among (Some n) (map (hole_cycle all) nodes)
-cycle-among all nodes n k (x, h, i, c) e =
-    let is : hole_cycle all x ≡ Some n = ap (term_cycle all x.class) i ∙ ap (λ b. cond b (Some n) None) (ap (λ z. on_cycle z all) c ∙ e) in
-    subst (λ o. Among o (map (hole_cycle all) nodes)) is (Among-map (hole_cycle all) x nodes h)
-
 acyclic : (nodes : List Node) → least_cycle (edges_of nodes nodes) nodes ≡ None → IsAcyclic nodes
 acyclic nodes e = record { holes = λ n k p path. least-of-none (map (hole_cycle (edges_of nodes nodes)) nodes) e n (cycle-among (edges_of nodes nodes) nodes n k p (path-cycle k (edges_of nodes nodes) path)) }
 
-pub cycle-met : (es : List Equation) (nodes : List Node) (hole : Text) → IsSettled es nodes → least_cycle (edges_of nodes nodes) nodes ≡ Some hole → ((one other : Head) → HasHeads es one other → ⊥) × IsLeastCycle es hole
-cycle-met es nodes hole s e =
-    let l = least-of (map (hole_cycle (edges_of nodes nodes)) nodes) hole e in
-    let x = Among-mapped (hole_cycle (edges_of nodes nodes)) (Some hole) nodes l.0 in
-    let c = term-cycle (edges_of nodes nodes) x.0.class x.0.ident hole x.2 in (
-      settled-heads es nodes s,
-      record {
-        cycle = listed-cycle es nodes s hole x.0.class (x.0, x.1, c.0, refl) c.1;
-        least = λ n r b. let k = cycle-listed es nodes s n r in l.1 n (cycle-among (edges_of nodes nodes) nodes n k.0 k.1 k.2) b;
-      },
-    )
-
 -- ---- unifiers
 
-pub answer-met : (es : List Equation) (nodes : List Node) (built : List Entry) → IsLawful es → IsSettled es nodes → least_cycle (edges_of nodes nodes) nodes ≡ None → Stands es nodes built → first_ready nodes built nodes ≡ None → IsAnswer es (answer built nodes [])
+pub answer-met : (es : List Equation) (nodes : List Node) (built : List (Option Ident)) → IsLawful es → IsSettled es nodes → least_cycle (edges_of nodes nodes) nodes ≡ None → Stands es nodes built → first_ready nodes built nodes ≡ None → IsAnswer es (answer built nodes [])
 answer-met es nodes built lawful s e st stuck = is-answer es lawful nodes s built st (all-done es lawful nodes s (acyclic nodes e) built stuck)
 
 pub has-unifier : (es : List Equation) (nodes : List Node) → IsLawful es → IsSettled es nodes → least_cycle (edges_of nodes nodes) nodes ≡ None → HasUnifier es
 has-unifier es nodes lawful s e =
-    let b = build-ends es nodes s.joined.table (unbuilt nodes []) [] (let x : unbuilt nodes [] ≡ unbuilt nodes [] = refl in omega (arith, x)) (no-entries es nodes) in
+    let b = build-ends es nodes s.joined.table (unbuilt nodes none) none (length-replicate (length nodes) None) (let x : unbuilt nodes none ≡ unbuilt nodes none = refl in omega (arith, x)) (no-entries es nodes (length nodes)) in
     (answer b.0 nodes [], (answer-met es nodes b.0 lawful s e b.1 b.2).unifies)
+  where
+    none : List (Option Ident)
+    none = replicate (length nodes) None
 
 pub no-unifier : (es : List Equation) (o : Obstacle) → IsObstacle es o → HasUnifier es → ⊥
 no-unifier es (Clash one other) h u = clash_has_no_unifier es one other h u
@@ -125,9 +98,9 @@ range-start es o n is h = record {
   fails = let le : length es ≤ n = omega (arith, is) in subst (λ l. IsObstacle l o) (sym (take_all n es le)) h;
 }
 
-pub range-low : (es : List Equation) (r : Range) (n : ℕ) (nodes : List Node) → IsLawful es → IsRange es r → r.low < n → n < r.high → IsSettled (take n es) nodes → least_cycle (edges_of nodes nodes) nodes ≡ None
+pub range-low : (es : List Equation) (r : Range) (n : ℕ) (table : List Ident) (classes : List ℕ) → IsLawful es → IsRange es r → r.low < n → n < r.high → IsFree (take n es) table classes
     → IsRange es (record { low = n; high = r.high; obstacle = r.obstacle })
-range-low es r n nodes lawful ok lt gt s e = record { below = gt; within = ok.within; unified = has-unifier (take n es) nodes (lawful-take es n lawful) s e; fails = ok.fails }
+range-low es r n table classes lawful ok lt gt f = record { below = gt; within = ok.within; unified = has-unifier (take n es) (nodes_of table classes) (lawful-take es n lawful) f.settled f.acyclic; fails = ok.fails }
 
 pub range-high : (es : List Equation) (r : Range) (n : ℕ) (o : Obstacle) → IsRange es r → r.low < n → n < r.high → IsObstacle (take n es) o → IsRange es (record { low = r.low; high = n; obstacle = o })
 range-high es r n o ok lt gt h = record { below = lt; within = let w = ok.within in omega (arith, w, gt); unified = ok.unified; fails = h }
@@ -139,9 +112,9 @@ range-end es r ok le = record {
   fails = let b = ok.below in let e : r.high ≡ r.low + 1 = omega (arith, b, le) in subst (λ n. IsObstacle (take n es) r.obstacle) e ok.fails;
 }
 
-pub half-low : (es : List Equation) (r : Range) (nodes : List Node) → IsLawful es → IsRange es r → r.low + 1 < r.high → IsSettled (take (r.low + (r.high - r.low) / 2) es) nodes → least_cycle (edges_of nodes nodes) nodes ≡ None
+pub half-low : (es : List Equation) (r : Range) (table : List Ident) (classes : List ℕ) → IsLawful es → IsRange es r → r.low + 1 < r.high → IsFree (take (r.low + (r.high - r.low) / 2) es) table classes
     → IsRange es (record { low = r.low + (r.high - r.low) / 2; high = r.high; obstacle = r.obstacle })
-half-low es r nodes lawful ok wide s e = range-low es r (r.low + (r.high - r.low) / 2) nodes lawful ok (above r.low r.high wide) (under r.low r.high wide) s e
+half-low es r table classes lawful ok wide f = range-low es r (r.low + (r.high - r.low) / 2) table classes lawful ok (above r.low r.high wide) (under r.low r.high wide) f
   where
     above : (l h : ℕ) → l + 1 < h → l < l + (h - l) / 2
     above l h w = omega (arith, w)
@@ -149,34 +122,11 @@ half-low es r nodes lawful ok wide s e = range-low es r (r.low + (r.high - r.low
     under : (l h : ℕ) → l + 1 < h → l + (h - l) / 2 < h
     under l h w = omega (arith, w)
 
--- the answer, over copies of the table and of what is built
-pub answer-found : (es : List Equation) (nodes first second : List Node) (built third : List Entry) (fills : List Fill) → IsLawful es → IsSettled es nodes → least_cycle (edges_of nodes nodes) nodes ≡ None
-    → first ≡ nodes → second ≡ nodes → third ≡ built → ((gs : List Equation) → IsTable gs first → Stands gs first built) → first_ready first built first ≡ None → fills ≡ answer third second [] → IsAnswer es fills
-answer-found es nodes first second built third fills lawful s e a b c st stuck made =
-    subst (IsAnswer es) (sym (made ∙ (λ w. answer (c w) (b w) [])))
-    (answer-met es nodes built lawful s e (subst (λ l. Stands es l built) a (st es (subst (IsTable es) (sym a) s.joined.table))) (subst (λ l. first_ready l built l ≡ None) a stuck))
+-- ---- the answer
 
--- the cycle, over copies of the table and of its edges
-pub cycle-found : (es : List Equation) (nodes first second : List Node) (edges third : List Edge) (o : Option Text) (hole : Text) → IsSettled es nodes → first ≡ nodes → second ≡ nodes
-    → edges ≡ edges_of first first → third ≡ edges → o ≡ least_cycle third second → o ≡ Some hole → ((one other : Head) → HasHeads es one other → ⊥) × IsLeastCycle es hole
-cycle-found es nodes first second edges third o hole s a b made c found is =
-    cycle-met es nodes hole s ((λ w. least_cycle (sym (c ∙ made ∙ (λ v. edges_of (a v) (a v))) w) (sym b w)) ∙ sym found ∙ is)
-
--- what the search for a cycle asks of them
-pub settled-classes : (es : List Equation) (nodes rows : List Node) → IsSettled es nodes → rows ≡ nodes → (x : Node) → Among x rows → x.class < length rows
-settled-classes es nodes rows s is = subst (λ z. (x : Node) → Among x z → x.class < length z) (sym is) s.joined.table.below
-
-pub settled-ends : (es : List Equation) (nodes first rows : List Node) (edges third : List Edge) → IsSettled es nodes → first ≡ nodes → rows ≡ nodes → edges ≡ edges_of first first → third ≡ edges → (e : Edge) → Among e third → e.to < length rows
-settled-ends es nodes first rows edges third s a b made c e h =
-    let x = edge-says nodes e (subst (λ z. Among e z) (c ∙ made ∙ (λ w. edges_of (a w) (a w))) h) in
-    let p = class_at-found x.ident nodes e.to x.to in
-    let lt = s.joined.table.below p.0 p.1 in
-    let is = p.3 in
-    let same = ap length b in omega (arith, lt, is, same)
-
--- a table that was written through a slice of a vector
-pub written : (len : ℕ) (now old : List Node) → length now ≡ length old → len ≡ length old → take len (now ++ drop (length now) old) ≡ now
-written len now old same is =
-    let le : length old ≤ length now = omega (arith, same) in
-    let short : length now ≤ len = omega (arith, same, is) in
-    ap (λ l. take len (now ++ l)) (drop_all (length now) old le) ∙ ap (take len) (append-nil now) ∙ take_all len now short
+pub answer-found : (es : List Equation) (table new : List Ident) (classes : List ℕ) (built : List (Option ℕ)) (fills : List NumberFill) → IsLawful es → IsFree es table classes → Grows table new
+    → ((gs : List Equation) → IsTable gs (nodes_of table classes) → Stands gs (nodes_of table classes) (built_of new built)) → first_ready (nodes_of table classes) (built_of new built) (nodes_of table classes) ≡ None
+    → fills_of new fills ≡ answer (built_of new built) (nodes_of new classes) [] → IsAnswer es (fills_of new fills)
+answer-found es table new classes built fills lawful f grows st stuck made =
+    let same : nodes_of new classes ≡ nodes_of table classes = nodes-later table new classes grows (let e = f.length in omega (arith, e)) in
+    subst (IsAnswer es) (sym (made ∙ ap (λ l. answer (built_of new built) l []) same)) (answer-met es (nodes_of table classes) (built_of new built) lawful f.settled f.acyclic (st es f.settled.joined.table) stuck)

@@ -1,14 +1,15 @@
--- The table of equations, and what joining classes keeps.
-use Rattle.std.proofs.Common.{◌≡◌, ℕ, ◌+◌, ◌<◌, Bool, true, false, cond, nat_eq, List, [], ◌∷◌, ◌++◌, length, map, ◌⊎◌, inl, inr, refl, ap, sym, ◌∙◌, subst, arith, length-append}
+-- Look-ups in a table, and what joining classes keeps.
+use Rattle.std.proofs.Common.{◌≡◌, ℕ, zero, suc, ◌<◌, Bool, true, false, cond, nat_eq, List, [], ◌∷◌, ◌++◌, length, map, get_or, drop, ◌⊎◌, inl, inr, refl, ap, sym, ◌∙◌, subst, arith}
 use Rattle.std.proofs.lemmas.List.{length-map}
 use Rattle.std.proofs.lemmas.Bool.{eqb-true, eq-eqb}
-use Rattle.std.specs.Prelude.{Option, Some, None, unwrap_or}
+use Rattle.std.specs.Prelude.{Option, Some, None}
 use Rattle.bp_base.specs.declared.ident.Ident.{Ident}
 use Rattle.bp_base.specs.Lists.{Among}
 use Rattle.hole_unify.specs.declared.equation.Equation.{Equation}
-use Rattle.hole_unify.specs.declared.table.Node.{Node}
-use Rattle.hole_unify.specs.Classes.{Same, Itself, Turned, Joined}
-use Rattle.hole_unify.specs.Table.{is_same, class_at, fresh_class, numbered, terms_of, terms_in, renumbered, renumbered_node, moved}
+use Rattle.hole_unify.specs.Table.{Node}
+use Rattle.hole_unify.specs.Classes.{Same, Turned, Joined}
+use Rattle.ident_table.specs.Parts.{terms_of, terms_below, terms_of_row, terms_in_fills}
+use Rattle.hole_unify.specs.Table.{is_same, class_at, terms_in, renumbered, renumbered_node, moved}
 use Rattle.hole_unify.specs.Tables.{In, One, IsTable}
 use Rattle.std.specs.Str.{bytes_eq}
 use Rattle.bp_base.specs.declared.ident.Ident.TheVariants.{Hole, Module, Module'}
@@ -17,7 +18,6 @@ use Rattle.bp_base.specs.declared.ident.Fill.{Fill}
 use Rattle.bp_base.specs.declared.ident.Ident.TheBlock.{end_of-Unit, more_of-Unit, Row_of-Fill, end_of-Fill, more_of-Fill}
 use Rattle.bp_base.specs.Texts.{Text}
 use Rattle.unit_identity.specs.Fill.{found}
-use Rattle.hole_unify.specs.Table.{terms_below, terms_of_row, terms_in_fills}
 use Rattle.hole_unify.proofs.Unifying.{Module-unit}
 use Rattle.hole_unify.proofs.Terms.{same_terms, terms_same, terms_below-out, Module-is, Hole-not-Module}
 
@@ -47,6 +47,20 @@ Among-mapped f y [] h = absurd h
 Among-mapped f y (z ∷ xs) (inl e) = (z, inl refl, e)
 Among-mapped f y (z ∷ xs) (inr h) = let k = Among-mapped f y xs h in (k.0, inr k.1, k.2)
 
+pub Among-get_or : {A : Type 0} (l : List A) (i : ℕ) (d : A) → i < length l → Among (get_or l i d) l
+Among-get_or [] i d lt = absurd (omega (arith, lt))
+Among-get_or (x ∷ l) zero d lt = inl refl
+Among-get_or (x ∷ l) (suc i) d lt = inr (Among-get_or l i d (omega (arith, lt)))
+
+pub Among-read : {A : Type 0} (l : List A) (i : ℕ) (x : A) → i < length l → x ≡ get_or l i x → Among x l
+Among-read l i x lt is = subst (λ z. Among z l) (sym is) (Among-get_or l i x lt)
+
+pub Among-drop : {A : Type 0} (x : A) (l : List A) (i : ℕ) → Among x (drop i l) → Among x l
+Among-drop x [] zero h = h
+Among-drop x [] (suc i) h = h
+Among-drop x (y ∷ l) zero h = h
+Among-drop x (y ∷ l) (suc i) h = inr (Among-drop x l i h)
+
 -- ---- looking up
 
 pub Some-same : {A : Type 0} (a b : A) → Some a ≡ Some b → a ≡ b
@@ -68,117 +82,6 @@ class_at-none t (y ∷ ys) e x h is = by (is_same y.ident t) refl e h (λ d a. c
     by true d e h r = cc
     by false d e (inl s) r = let p : is_same y.ident t ≡ true = ap (λ z. is_same z t) (ap (λ z. z.ident) s ∙ is) ∙ terms_same t in let q : false ≡ true = sym d ∙ p in cc
     by false d e (inr a) r = r e a
-
--- ---- the first numbers
-
-record IsFresh (nodes : List Node) : Type 0 where
-  one : (t : Ident) (k l : ℕ) → In nodes t k → In nodes t l → k ≡ l
-  apart : (x y : Node) → Among x nodes → Among y nodes → x.class ≡ y.class → x.ident ≡ y.ident
-  below : (x : Node) → Among x nodes → x.class < length nodes
-
-In-snoc : (nodes : List Node) (y : Node) (t : Ident) (k : ℕ) → In (nodes ++ y ∷ []) t k → In nodes t k ⊎ ((y.ident ≡ t) × (y.class ≡ k))
-In-snoc nodes y t k (x, h, i, c) = elim (Among-cases x nodes (y ∷ []) h) [ inl a ↦ inl (x, a, i, c) | inr b ↦ elim b [ inl e ↦ inr (ap (λ z. z.ident) e ∙ i, ap (λ z. z.class) e ∙ c) | inr f ↦ absurd f ] ]
-
--- how the number of a new term is related to those in the table
-abbrev New : List Node → Ident → ℕ → Type 0
-New nodes t k = In nodes t k ⊎ (((x : Node) → Among x nodes → x.ident ≡ t → ⊥) × (k ≡ length nodes))
-
-new-class : (nodes : List Node) (t : Ident) → New nodes t (fresh_class t nodes)
-new-class nodes t = by (class_at t nodes) refl
-  where
-    by : (o : Option ℕ) → class_at t nodes ≡ o → New nodes t (unwrap_or (class_at t nodes) (length nodes))
-    by None e = inr (class_at-none t nodes e, ap (λ o. unwrap_or o (length nodes)) e)
-    by (Some k) e = inl (subst (λ o. In nodes t (unwrap_or o (length nodes))) (sym e) (class_at-found t nodes k e))
-
-fresh-push : (nodes : List Node) (t : Ident) (k : ℕ) → New nodes t k → IsFresh nodes → IsFresh (nodes ++ record { ident = t; class = k } ∷ [])
-fresh-push nodes t k new f = record {
-  one = λ s p q a b. one s p q (In-snoc nodes y s p a) (In-snoc nodes y s q b);
-  apart = λ x z a b e. apart x z (Among-cases x nodes (y ∷ []) a) (Among-cases z nodes (y ∷ []) b) e;
-  below = λ x a. below x (Among-cases x nodes (y ∷ []) a);
-}
-  where
-    y : Node
-    y = record { ident = t; class = k }
-
-    old-one : (s : Ident) (p : ℕ) → In nodes s p → t ≡ s → p ≡ k
-    old-one s p i e = elim new [ inl j ↦ f.one s p k i (subst (λ z. In nodes z k) e j) | inr n ↦ absurd (n.0 i.0 i.1 (i.2 ∙ sym e)) ]
-
-    one : (s : Ident) (p q : ℕ) → In nodes s p ⊎ ((t ≡ s) × (k ≡ p)) → In nodes s q ⊎ ((t ≡ s) × (k ≡ q)) → p ≡ q
-    one s p q (inl a) (inl b) = f.one s p q a b
-    one s p q (inl a) (inr b) = old-one s p a b.0 ∙ b.1
-    one s p q (inr a) (inl b) = sym (old-one s q b a.0 ∙ a.1)
-    one s p q (inr a) (inr b) = sym a.1 ∙ b.1
-
-    -- an old node of the new node's class has its term
-    old-apart : (x : Node) → Among x nodes → x.class ≡ k → x.ident ≡ t
-    old-apart x a e = elim new [
-      | inl j ↦ f.apart x j.0 a j.1 (e ∙ sym j.3) ∙ j.2
-      | inr n ↦ let lt = f.below x a in absurd (below-self x.class lt (e ∙ n.1))
-    ]
-      where
-        below-self : (p : ℕ) → p < length nodes → p ≡ length nodes → ⊥
-        below-self p l m = omega arith
-
-    apart : (x z : Node) → Among x nodes ⊎ Among x (y ∷ []) → Among z nodes ⊎ Among z (y ∷ []) → x.class ≡ z.class → x.ident ≡ z.ident
-    apart x z (inl a) (inl b) e = f.apart x z a b e
-    apart x z (inl a) (inr (inl b)) e = old-apart x a (e ∙ sym (ap (λ v. v.class) b)) ∙ ap (λ v. v.ident) b
-    apart x z (inl a) (inr (inr b)) e = absurd b
-    apart x z (inr (inl a)) (inl b) e = sym (old-apart z b (sym e ∙ sym (ap (λ v. v.class) a)) ∙ ap (λ v. v.ident) a)
-    apart x z (inr (inr a)) q e = absurd a
-    apart x z (inr (inl a)) (inr (inl b)) e = sym (ap (λ v. v.ident) a) ∙ ap (λ v. v.ident) b
-    apart x z (inr (inl a)) (inr (inr b)) e = absurd b
-
-    more : length (nodes ++ y ∷ []) ≡ length nodes + 1
-    more = length-append nodes (y ∷ [])
-
-    below : (x : Node) → Among x nodes ⊎ Among x (y ∷ []) → x.class < length (nodes ++ y ∷ [])
-    below x (inl a) = let lt = f.below x a in omega (arith, more, lt)
-    below x (inr (inl e)) = let is : k ≡ x.class = ap (λ v. v.class) e in
-        elim new [ inl j ↦ let lt = f.below j.0 j.1 in let c = j.3 in omega (arith, more, lt, is, c) | inr n ↦ let c = n.1 in omega (arith, more, is, c) ]
-    below x (inr (inr h)) = absurd h
-
-numbered-fresh : (ts : List Ident) (nodes : List Node) → IsFresh nodes → IsFresh (numbered ts nodes)
-numbered-fresh [] nodes f = f
-numbered-fresh (t ∷ ts) nodes f = numbered-fresh ts _ (fresh-push nodes t (fresh_class t nodes) (new-class nodes t) f)
-
-numbered-keeps : (ts : List Ident) (nodes : List Node) (x : Node) → Among x nodes → Among x (numbered ts nodes)
-numbered-keeps [] nodes x h = h
-numbered-keeps (t ∷ ts) nodes x h = numbered-keeps ts _ x (Among-left x nodes _ h)
-
-numbered-listed : (ts : List Ident) (nodes : List Node) (t : Ident) → Among t ts → (k : ℕ) × In (numbered ts nodes) t k
-numbered-listed [] nodes t h = absurd h
-numbered-listed (s ∷ ts) nodes t (inl e) =
-    let y : Node = record { ident = s; class = fresh_class s nodes } in
-    (fresh_class s nodes, (y, numbered-keeps ts (nodes ++ y ∷ []) y (Among-right y nodes (y ∷ []) (inl refl)), e, refl))
-numbered-listed (s ∷ ts) nodes t (inr h) = numbered-listed ts _ t h
-
-numbered-only : (ts : List Ident) (nodes : List Node) (x : Node) → Among x (numbered ts nodes) → Among x nodes ⊎ Among x.ident ts
-numbered-only [] nodes x h = inl h
-numbered-only (t ∷ ts) nodes x h = elim (numbered-only ts _ x h) [
-  | inl a ↦ elim (Among-cases x nodes _ a) [ inl b ↦ inl b | inr c ↦ elim c [ inl e ↦ inr (inl (ap (λ v. v.ident) e)) | inr n ↦ absurd n ] ]
-  | inr b ↦ inr (inr b)
-]
-
-no-nodes : IsFresh []
-no-nodes = record { one = λ t k l a b. absurd a.1; apart = λ x y a b e. absurd a; below = λ x a. absurd a }
-
--- before any joining a class has one term
-pub first-apart : (es : List Equation) (a b : Ident) (k : ℕ) → In (numbered (terms_in es) []) a k → In (numbered (terms_in es) []) b k → a ≡ b
-first-apart es a b k (x, h, i, c) (y, g, j, d) = sym i ∙ (numbered-fresh (terms_in es) [] no-nodes).apart x y h g (c ∙ sym d) ∙ j
-
-Same-equal : (es : List Equation) (a b : Ident) → a ≡ b → Same es a b
-Same-equal es a b e = subst (λ x. Same es a x) e (Itself a)
-
-pub first-table : (es : List Equation) → IsTable es (numbered (terms_in es) [])
-first-table es =
-    let f = numbered-fresh (terms_in es) [] no-nodes in
-    record {
-      listed = λ t h. numbered-listed (terms_in es) [] t h;
-      only = λ x h. elim (numbered-only (terms_in es) [] x h) [ inl a ↦ absurd a | inr b ↦ b ];
-      one = f.one;
-      below = f.below;
-      sound = λ x y a b e. Same-equal es x.ident y.ident (f.apart x y a b e);
-    }
 
 -- ---- joining two classes
 

@@ -8,8 +8,8 @@ use Rattle.bp_base.specs.declared.ident.Fill.{Fill}
 use Rattle.bp_base.specs.declared.ident.Ident.TheBlock.{hidden-the_row-Unit-0, shown-the_row-Fill-1, end_of-Unit, more_of-Unit, Row_of-Fill, end_of-Fill, more_of-Fill}
 use Rattle.bp_base.proofs.Idents.{unit-same}
 use Rattle.bp_base.proofs.Texts.{same_texts, texts_same}
-use Rattle.hole_unify.specs.declared.table.Node.{Node}
-use Rattle.hole_unify.specs.Table.{is_module, is_same, is_same_unit, is_same_row, terms_of, terms_below, terms_of_row, terms_in_fills, numbered, fresh_class}
+use Rattle.ident_table.specs.Parts.{terms_of, terms_below, terms_of_row, terms_in_fills}
+use Rattle.hole_unify.specs.Table.{is_module, is_same, is_same_unit, is_same_row}
 use mathlib.Core.Former.{list_count, this, none_left}
 use denote.Hole.Carrier.{hidden, out, shown}
 
@@ -32,10 +32,6 @@ unfolding hidden-the_row-Unit-0 hidden
 is_module-Module u m = refl
 
 pub ruleset module_equations = (is_module-Module)
-
-pub numbered-append : (a b : List Ident) (nodes : List Node) → numbered (a ++ b) nodes ≡ numbered b (numbered a nodes)
-numbered-append [] b nodes = refl
-numbered-append (t ∷ a) b nodes = numbered-append a b (nodes ++ record { ident = t; class = fresh_class t nodes } ∷ [])
 
 -- ---- `is_same` decides
 

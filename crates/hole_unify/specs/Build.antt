@@ -1,5 +1,5 @@
 -- What is built from the classes of a table.
-use Rattle.std.specs.Prelude.{◌≡◌, ℕ, ◌+◌, Bool, true, false, ◌&&◌, ◌||◌, List, [], ◌∷◌, ◌++◌, map, Option, Some, None, if◌then◌else◌, nat_eq}
+use Rattle.std.specs.Prelude.{ℕ, ◌+◌, Bool, true, false, ◌&&◌, ◌||◌, List, [], ◌∷◌, ◌++◌, map, Option, Some, None, if◌then◌else◌, nat_eq, get_or, ◌<◌}
 use Rattle.std.specs.Option.{option_or}
 use Rattle.std.specs.Ordering.{nat_cmp}
 use Rattle.std.specs.Cmp.Lexicographic.{slice_cmp}
@@ -11,23 +11,39 @@ use Rattle.bp_base.specs.declared.ident.Unit.{Unit as OfUnit, out-Unit}
 use Rattle.bp_base.specs.declared.ident.Ident.TheViews.{roll-Unit}
 use Rattle.bp_base.specs.declared.ident.Fill.{Fill}
 use Rattle.bp_base.specs.declared.ident.Ident.TheBlock.{end_of-Unit, more_of-Unit}
+use Rattle.bp_base.specs.Lists.{Among}
 use Rattle.bp_base.specs.Texts.{Text}
+use Rattle.ident_table.specs.Numbers.{ident_of}
 use Rattle.unit_identity.specs.Fill.{found}
-use Rattle.hole_unify.specs.declared.table.Node.{Node}
-use Rattle.hole_unify.specs.declared.build.Entry.{Entry}
+use Rattle.hole_unify.specs.Table.{Node}
 use Rattle.hole_unify.specs.Table.{class_at, is_same, is_module}
 use Rattle.hole_unify.specs.Reach.{least_from}
 
 -- what is built for a class
-abbrev pub built_at : ℕ → List Entry → Option Ident
-built_at k [] = None
-built_at k (e ∷ es) = if nat_eq e.class k then Some e.ident else built_at k es
+pub record Entry : Type 0 where
+  pub class : ℕ
+  pub ident : Ident
 
-abbrev pub at_class : List Entry → Option ℕ → Option Ident
+-- what numbers of a table stand for, where classes are built
+abbrev pub number_built : List Ident → Option ℕ → Option Ident
+number_built table None = None
+number_built table (Some n) = Some (ident_of table n)
+
+abbrev pub built_of : List Ident → List (Option ℕ) → List (Option Ident)
+built_of table built = map (number_built table) built
+
+abbrev pub AreBuiltBelow : ℕ → List (Option ℕ) → Type 0
+AreBuiltBelow n built = (k : ℕ) → Among (Some k) built → k < n
+
+-- what is built for a class, by its number
+abbrev pub built_at : ℕ → List (Option Ident) → Option Ident
+built_at k built = get_or built k None
+
+abbrev pub at_class : List (Option Ident) → Option ℕ → Option Ident
 at_class built None = None
 at_class built (Some k) = built_at k built
 
-abbrev pub ident_built : List Node → List Entry → Ident → Option Ident
+abbrev pub ident_built : List Node → List (Option Ident) → Ident → Option Ident
 ident_built nodes built i = at_class built (class_at i nodes)
 
 abbrev pub with_fill : Text → Option Ident → Option (List Fill) → Option (List Fill)
@@ -36,7 +52,7 @@ with_fill h (Some t) None = None
 with_fill h (Some t) (Some fs) = Some (record { hole = h; ident = t } ∷ fs)
 
 -- what is built for the fills of a unit, where all are built
-abbrev pub fills_built : List Node → List Entry → List Fill → Option (List Fill)
+abbrev pub fills_built : List Node → List (Option Ident) → List Fill → Option (List Fill)
 fills_built nodes built [] = Some []
 fills_built nodes built (f ∷ fs) = with_fill f.hole (ident_built nodes built f.ident) (fills_built nodes built fs)
 
@@ -72,7 +88,7 @@ abbrev pub hole_ready : List Node → ℕ → Option Ident
 hole_ready nodes k = if has_module k nodes then None else hole_of (least_hole k nodes)
 
 -- a class without a module is its least hole; else a module of it, with what is built for its fills
-abbrev pub term_ready : List Node → List Entry → ℕ → Ident → Option Ident
+abbrev pub term_ready : List Node → List (Option Ident) → ℕ → Ident → Option Ident
 term_ready nodes built k (Hole n) = hole_ready nodes k
 term_ready nodes built k (Module' s (more_of-Unit u end_of-Unit) m) = module_of u m (fills_built nodes built (out-Unit u).fills)
 
@@ -81,23 +97,13 @@ entry_of k (Some t) made = None
 entry_of k None None = None
 entry_of k None (Some t) = Some (record { class = k; ident = t })
 
-abbrev pub node_ready : List Node → List Entry → Node → Option Entry
+abbrev pub node_ready : List Node → List (Option Ident) → Node → Option Entry
 node_ready nodes built x = entry_of x.class (built_at x.class built) (term_ready nodes built x.class x.ident)
 
 -- the first class that is not built and can be
-abbrev pub first_ready : List Node → List Entry → List Node → Option Entry
+abbrev pub first_ready : List Node → List (Option Ident) → List Node → Option Entry
 first_ready nodes built [] = None
 first_ready nodes built (x ∷ rest) = option_or (node_ready nodes built x) (first_ready nodes built rest)
-
--- the same of one class
-abbrev pub class_ready : ℕ → List Node → List Entry → List Node → Option Entry
-class_ready k nodes built [] = None
-class_ready k nodes built (x ∷ rest) = option_or (if nat_eq x.class k then node_ready nodes built x else None) (class_ready k nodes built rest)
-
--- one entry more, where there is one
-abbrev pub Pushes : Option Entry → List Entry → List Entry → Bool → Type 0
-Pushes None old new more = (more ≡ false) × (new ≡ old)
-Pushes (Some e) old new more = (more ≡ true) × (new ≡ old ++ e ∷ [])
 
 -- ---- the fills of the holes
 
@@ -129,6 +135,6 @@ term_put (Hole n) o fs = hole_put n o fs
 term_put (Module' s r m) o fs = fs
 
 -- the fills of the holes of the table
-abbrev pub answer : List Entry → List Node → List Fill → List Fill
+abbrev pub answer : List (Option Ident) → List Node → List Fill → List Fill
 answer built [] fs = fs
 answer built (x ∷ rest) fs = answer built rest (term_put x.ident (built_at x.class built) fs)

@@ -1,5 +1,5 @@
 -- What follows where two classes become one, and what closing keeps.
-use Rattle.std.specs.Prelude.{◌≡◌, ℕ, ◌&&◌, List, [], ◌∷◌, ◌++◌, Option, Some, None, if◌then◌else◌, nat_eq, nat_lt}
+use Rattle.std.specs.Prelude.{◌≡◌, ℕ, ◌<◌, ◌&&◌, List, [], ◌∷◌, ◌++◌, map, Option, Some, None, if◌then◌else◌, nat_eq, nat_lt}
 use Rattle.std.specs.Str.{bytes_eq}
 use Rattle.bp_base.specs.declared.ident.Ident.{Ident}
 use Rattle.bp_base.specs.declared.ident.Ident.TheVariants.{Hole, Module, Module'}
@@ -7,14 +7,35 @@ use Rattle.bp_base.specs.declared.ident.Unit.{Unit as OfUnit, out-Unit}
 use Rattle.bp_base.specs.declared.ident.Fill.{Fill}
 use Rattle.bp_base.specs.declared.ident.Ident.TheBlock.{end_of-Unit, more_of-Unit}
 use Rattle.bp_base.specs.Texts.{Text}
+use Rattle.bp_base.specs.Lists.{Among}
 use Rattle.unit_identity.specs.Fill.{found}
-use Rattle.hole_unify.specs.declared.table.Node.{Node}
-use Rattle.hole_unify.specs.declared.close.Pair.{Pair}
+use Rattle.ident_table.specs.Numbers.{ident_of}
+use Rattle.ident_table.specs.declared.node.NumberFill.{NumberFill}
+use Rattle.ident_table.specs.declared.node.IdentNode.{IdentNode}
+use Rattle.ident_table.specs.declared.node.IdentNode.TheVariants as node
+use Rattle.hole_unify.specs.Table.{Node}
+use Rattle.hole_unify.specs.declared.pair.NumberPair.{NumberPair}
+use Rattle.hole_unify.specs.Numbers.{number_at}
 use Rattle.hole_unify.specs.declared.equation.Equation.{Equation}
 use Rattle.hole_unify.specs.declared.equation.Head.{Head}
 use Rattle.hole_unify.specs.Classes.{head_of, HasHeads}
 use Rattle.hole_unify.specs.Tables.{In, IsJoined}
 use Rattle.hole_unify.specs.Table.{class_at, is_module, moved}
+
+-- two terms whose classes are to be one
+pub record Pair : Type 0 where
+  pub one : Ident
+  pub other : Ident
+
+-- what a pair of numbers of a table stands for
+abbrev pub pair_of : List Ident → NumberPair → Pair
+pair_of table p = record { one = ident_of table p.one; other = ident_of table p.other }
+
+abbrev pub pairs_of : List Ident → List NumberPair → List Pair
+pairs_of table ps = map (pair_of table) ps
+
+abbrev pub ArePairsBelow : ℕ → List NumberPair → Type 0
+ArePairsBelow n ps = (p : NumberPair) → Among p ps → (p.one < n) × (p.other < n)
 
 abbrev pub fill_pair : Option Ident → Option Ident → List Pair
 fill_pair None right = []
@@ -43,6 +64,28 @@ abbrev pub terms_heads : Ident → Ident → Option (Head × Head)
 terms_heads (Hole m) b = None
 terms_heads (Module' s r m) (Hole n) = None
 terms_heads (Module' s (more_of-Unit u end_of-Unit) m) (Module' t (more_of-Unit v end_of-Unit) n) = units_heads u m v n
+
+abbrev pub fill_numbers : Option ℕ → Option ℕ → List NumberPair
+fill_numbers None right = []
+fill_numbers (Some i) None = []
+fill_numbers (Some i) (Some j) = record { one = i; other = j } ∷ []
+
+-- the fills of two modules hole by hole, where `rest` is what is left of the first one's
+abbrev pub fills_numbers : List NumberFill → List NumberFill → List NumberFill → List NumberPair
+fills_numbers ours theirs [] = []
+fills_numbers ours theirs (f ∷ rest) = fill_numbers (number_at f.hole ours) (number_at f.hole theirs) ++ fills_numbers ours theirs rest
+
+-- the numbers that are to be of one class where two identities of a table are
+abbrev pub nodes_numbers : IdentNode → IdentNode → List NumberPair
+nodes_numbers (node.Hole m) b = []
+nodes_numbers (node.Module c fs m) (node.Hole n) = []
+nodes_numbers (node.Module c fs m) (node.Module d gs n) = if bytes_eq c d && bytes_eq m n then fills_numbers fs gs fs else []
+
+-- the heads of two identities of a table, where they are two
+abbrev pub nodes_heads : IdentNode → IdentNode → Option (Head × Head)
+nodes_heads (node.Hole m) b = None
+nodes_heads (node.Module c fs m) (node.Hole n) = None
+nodes_heads (node.Module c fs m) (node.Module d gs n) = if bytes_eq c d && bytes_eq m n then None else Some (record { component = c; «module» = m }, record { component = d; «module» = n })
 
 -- the first module of a class
 abbrev pub module_at : ℕ → List Node → Option Ident

@@ -9,3 +9,5 @@ pub mod Reach
 pub mod Build
 pub mod Stands
 pub mod Solve
+pub mod Numbers
+pub mod Stages

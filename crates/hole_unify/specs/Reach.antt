@@ -12,8 +12,12 @@ use Rattle.bp_base.specs.declared.ident.Unit.{out-Unit}
 use Rattle.bp_base.specs.declared.ident.Fill.{Fill}
 use Rattle.bp_base.specs.declared.ident.Ident.TheBlock.{end_of-Unit, more_of-Unit}
 use Rattle.unit_identity.specs.Fill.{found}
-use Rattle.hole_unify.specs.declared.table.Node.{Node}
-use Rattle.hole_unify.specs.declared.reach.Edge.{Edge}
+use Rattle.ident_table.specs.declared.node.NumberFill.{NumberFill}
+use Rattle.ident_table.specs.declared.node.IdentNode.{IdentNode}
+use Rattle.ident_table.specs.declared.node.IdentNode.TheVariants as node
+use Rattle.hole_unify.specs.Table.{Node}
+use Rattle.hole_unify.specs.declared.edge.Edge.{Edge}
+use Rattle.hole_unify.specs.Numbers.{number_at}
 use Rattle.hole_unify.specs.Table.{class_at}
 
 abbrev pub class_edge : ℕ → Option ℕ → List Edge
@@ -36,6 +40,19 @@ term_edges nodes from (Module' s (more_of-Unit u end_of-Unit) m) = fills_edges n
 abbrev pub edges_of : List Node → List Node → List Edge
 edges_of nodes [] = []
 edges_of nodes (x ∷ rest) = term_edges nodes x.class x.ident ++ edges_of nodes rest
+
+-- the same edges by the numbers of a table
+abbrev pub number_edge : List ℕ → ℕ → Option ℕ → List Edge
+number_edge classes from None = []
+number_edge classes from (Some n) = record { from = from; to = get_or classes n 0 } ∷ []
+
+abbrev pub number_edges : List ℕ → ℕ → List NumberFill → List NumberFill → List Edge
+number_edges classes from all [] = []
+number_edges classes from all (f ∷ rest) = number_edge classes from (number_at f.hole all) ++ number_edges classes from all rest
+
+abbrev pub node_edges : List ℕ → ℕ → IdentNode → List Edge
+node_edges classes from (node.Hole n) = []
+node_edges classes from (node.Module c fs m) = number_edges classes from fs fs
 
 abbrev pub holds : ℕ → List ℕ → Bool
 holds k [] = false
@@ -88,6 +105,10 @@ reached k all done (e ∷ turns) = reached k all (with_one done (next_reached k 
 
 abbrev pub on_cycle : ℕ → List Edge → Bool
 on_cycle k all = holds k (reached k all [] all)
+
+-- each edge leads to a lower rank
+abbrev pub Fall : List ℕ → List Edge → Type 0
+Fall ranks edges = (e : Edge) → Among e edges → get_or ranks e.to 0 < get_or ranks e.from 0
 
 -- whether the start is among those that are reached
 abbrev pub IsReached : List (List ℕ) → ℕ → List ℕ → Type 0

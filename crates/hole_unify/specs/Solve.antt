@@ -10,7 +10,9 @@ use Rattle.hole_unify.specs.declared.solve.Range.{Range}
 use Rattle.hole_unify.specs.declared.solve.Settlement.{Settlement}
 use Rattle.hole_unify.specs.declared.solve.Settlement.TheVariants.{Free, Stuck}
 use Rattle.bp_base.specs.Texts.{Text}
+use Rattle.bp_base.specs.declared.ident.Ident.{Ident}
 use Rattle.hole_unify.specs.Unifiers.{HasUnifier}
+use Rattle.hole_unify.specs.Table.{nodes_of}
 use Rattle.hole_unify.specs.Classes.{HasHeads, IsLeastCycle}
 use Rattle.hole_unify.specs.Close.{IsSettled}
 use Rattle.hole_unify.specs.Reach.{edges_of, least_cycle}
@@ -19,8 +21,14 @@ abbrev pub IsObstacle : List Equation → Obstacle → Type 0
 IsObstacle es (Clash one other) = HasHeads es one other
 IsObstacle es (Cycle hole) = ((one other : Head) → HasHeads es one other → ⊥) × IsLeastCycle es hole
 
+-- closed classes of the identities of a table, where no class reaches itself
+pub record IsFree (es : List Equation) (table : List Ident) (classes : List ℕ) : Type 0 where
+  pub length : length classes ≡ length table
+  pub settled : IsSettled es (nodes_of table classes)
+  pub acyclic : least_cycle (edges_of (nodes_of table classes) (nodes_of table classes)) (nodes_of table classes) ≡ None
+
 abbrev pub IsSettlement : List Equation → Settlement → Type 0
-IsSettlement es (Free nodes) = IsSettled es nodes.items × (least_cycle (edges_of nodes.items nodes.items) nodes.items ≡ None)
+IsSettlement es (Free table classes order) = IsFree es table classes.items
 IsSettlement es (Stuck obstacle) = IsObstacle es obstacle
 
 abbrev pub labelled : Text → Obstacle → IdentUnifyError

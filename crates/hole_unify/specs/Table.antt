@@ -1,13 +1,18 @@
 -- The table of terms, and joining of classes.
-use Rattle.std.specs.Prelude.{ℕ, Bool, true, false, ◌&&◌, List, [], ◌∷◌, ◌++◌, length, map, Option, Some, None, unwrap_or, if◌then◌else◌, nat_eq}
+use Rattle.std.specs.Prelude.{ℕ, zero, suc, Bool, true, false, ◌&&◌, List, [], ◌∷◌, ◌++◌, map, Option, Some, None, if◌then◌else◌, nat_eq}
 use Rattle.std.specs.Str.{bytes_eq}
 use Rattle.bp_base.specs.declared.ident.Ident.{Ident}
-use Rattle.bp_base.specs.declared.ident.Ident.TheVariants.{Hole, Module, Module'}
+use Rattle.bp_base.specs.declared.ident.Ident.TheVariants.{Hole, Module'}
 use Rattle.bp_base.specs.declared.ident.Unit.{Unit as OfUnit, Unit'}
-use Rattle.bp_base.specs.declared.ident.Fill.{Fill}
 use Rattle.bp_base.specs.declared.ident.Ident.TheBlock.{end_of-Unit, more_of-Unit, Row_of-Fill, end_of-Fill, more_of-Fill}
+use Rattle.bp_base.specs.Lists.{Among}
+use Rattle.ident_table.specs.Parts.{terms_of}
 use Rattle.hole_unify.specs.declared.equation.Equation.{Equation}
-use Rattle.hole_unify.specs.declared.table.Node.{Node}
+
+-- a term with the number of its class
+pub record Node : Type 0 where
+  pub ident : Ident
+  pub class : ℕ
 
 -- whether two terms are equal
 abbrev mutual
@@ -30,23 +35,7 @@ abbrev pub is_module : Ident → Bool
 is_module (Hole n) = false
 is_module (Module' s r m) = true
 
--- a term, and the terms below it
-abbrev mutual
-  pub terms_of : Ident → List Ident
-  terms_of (Hole n) = Hole n ∷ []
-  terms_of (Module' s (more_of-Unit u end_of-Unit) m) = Module u m ∷ terms_below u
-
-  pub terms_below : OfUnit → List Ident
-  terms_below (Unit' c s r) = terms_of_row r
-
-  pub terms_of_row : {m : _} → Row_of-Fill m → List Ident
-  terms_of_row end_of-Fill = []
-  terms_of_row (more_of-Fill h i r) = terms_of i ++ terms_of_row r
-
-abbrev pub terms_in_fills : List Fill → List Ident
-terms_in_fills [] = []
-terms_in_fills (f ∷ fs) = terms_of f.ident ++ terms_in_fills fs
-
+-- the terms of the equations, and those below them
 abbrev pub terms_in : List Equation → List Ident
 terms_in [] = []
 terms_in (e ∷ es) = terms_of e.left ++ (terms_of e.right ++ terms_in es)
@@ -55,14 +44,6 @@ terms_in (e ∷ es) = terms_of e.left ++ (terms_of e.right ++ terms_in es)
 abbrev pub class_at : Ident → List Node → Option ℕ
 class_at t [] = None
 class_at t (x ∷ xs) = if is_same x.ident t then Some x.class else class_at t xs
-
--- that of a term at the end: of the term that it equals, or else the next number
-abbrev pub fresh_class : Ident → List Node → ℕ
-fresh_class t nodes = unwrap_or (class_at t nodes) (length nodes)
-
-abbrev pub numbered : List Ident → List Node → List Node
-numbered [] nodes = nodes
-numbered (t ∷ ts) nodes = numbered ts (nodes ++ record { ident = t; class = fresh_class t nodes } ∷ [])
 
 -- one class is made of two
 abbrev pub renumbered : ℕ → ℕ → ℕ → ℕ
@@ -73,3 +54,19 @@ renumbered_node from to x = record { ident = x.ident; class = renumbered from to
 
 abbrev pub moved : ℕ → ℕ → List Node → List Node
 moved from to nodes = map (renumbered_node from to) nodes
+
+-- the identities of a table with their classes
+abbrev pub nodes_of : List Ident → List ℕ → List Node
+nodes_of [] ks = []
+nodes_of (t ∷ ts) [] = []
+nodes_of (t ∷ ts) (k ∷ ks) = record { ident = t; class = k } ∷ nodes_of ts ks
+
+-- each identity of a table in a class of its own
+abbrev pub upto : ℕ → List ℕ
+upto zero = []
+upto (suc n) = upto n ++ n ∷ []
+
+-- the table has the terms of the equations and no others
+pub record HasTerms (es : List Equation) (table : List Ident) : Type 0 where
+  pub listed : (t : Ident) → Among t (terms_in es) → Among t table
+  pub only : (t : Ident) → Among t table → Among t (terms_in es)

@@ -3,7 +3,7 @@ use Rattle.std.specs.Prelude.{◌≡◌, ℕ, ◌<◌, List, length}
 use Rattle.bp_base.specs.declared.ident.Ident.{Ident}
 use Rattle.bp_base.specs.Lists.{Among}
 use Rattle.hole_unify.specs.declared.equation.Equation.{Equation}
-use Rattle.hole_unify.specs.declared.table.Node.{Node}
+use Rattle.hole_unify.specs.Table.{Node}
 use Rattle.hole_unify.specs.Classes.{Same}
 use Rattle.hole_unify.specs.Table.{terms_in}
 

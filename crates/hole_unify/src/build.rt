@@ -1,68 +1,116 @@
-//! Building the answer from closed classes, none of whose holes reaches itself.
-ghost use Rattle.std.specs.Prelude.{◌≡◌, List, [], IfOk, OnOk};
+//! Building closed classes, none of whose holes reaches itself.
+ghost use Rattle.std.specs.Prelude.{◌≡◌, ℕ, ◌<◌, ◌≤◌, List, length, Option, Some, None, replicate, IfOk, slice_get, get_or, set};
+ghost use Rattle.std.specs.Option.{option_map, option_copied};
 ghost use Rattle.std.specs.Ordering.{nat_cmp};
 ghost use Rattle.std.specs.Cmp.Lexicographic.{slice_cmp};
+ghost use Rattle.bp_base.specs.Lists.{Among};
+ghost use Rattle.bp_base.specs.Texts.{Text};
+ghost use Rattle.ident_table.specs.Numbers.{ident_of, AreFillsBelow, IsIdentTable, Grows};
 ghost use Rattle.hole_unify.specs.declared.equation.Equation.{Equation};
-ghost use Rattle.hole_unify.specs.Table.{is_same};
+ghost use Rattle.hole_unify.specs.declared.build.Ready.{Ready};
+ghost use Rattle.hole_unify.specs.declared.build.Ready.TheVariants.{Hole};
+ghost use Rattle.hole_unify.specs.Table.{nodes_of};
 ghost use Rattle.hole_unify.specs.Tables.{IsTable};
 ghost use Rattle.hole_unify.specs.Stands.{Stands};
-ghost use Rattle.bp_base.specs.declared.ident.Ident.TheVariants.{Hole};
-ghost use Rattle.std.specs.Option.{option_copied};
-ghost use Rattle.unit_identity.specs.Fill.{found};
-ghost use Rattle.hole_unify.specs.Build.{built_at, ident_built, fills_built, module_of, has_module, class_hole, least_hole, hole_ready, term_ready, node_ready, first_ready, class_ready, Pushes, is_less, place, inserted, hole_put, term_put, answer};
+ghost use Rattle.hole_unify.specs.Reach.{lesser};
+ghost use Rattle.hole_unify.specs.Build.{number_built, built_of, AreBuiltBelow, is_less, has_module, least_hole, hole_of, hole_ready, term_ready, node_ready, first_ready};
+ghost use Rattle.hole_unify.specs.Stages.{node_at, hole_at, built_for, made_of, ready_entry, numbers_built, ready_ident, IsReadyBelow, IsStage, Follows, Steps};
 
-use crate::order::list_order;
-use crate::reach::lesser_name;
-use crate::table::{Node, class_of, is_of_module};
-use bp_base::{Fill, Fills, Ident, Name, Unit, compare};
-use sqlite_items::{Boxed, Items};
+use crate::lookup::{hole_name, is_before, is_module_at};
+use crate::reach::empty_lists;
+use bp_base::Name;
+use ident_table::{IdentNode, IdentTable, NumberFill, NumberFills};
 use std::alloc::{AllocError, Global};
-use std::cmp::Ordering;
-use unit_identity::filler;
 
-/// What is built for a class.
-#[derive(Debug, Drop)]
-pub struct Entry {
-    pub class: usize,
-    pub ident: Ident,
-}
-
-fn entry_at(built: &[Entry], class: usize) -> Option<&Ident>
-    ensures { option_copied result ≡ built_at class built.now }
+/// Whether the identity is a module.
+fn class_has_module(table: &IdentTable, classes: &[usize], class: usize) -> bool
+    requires { length classes.now ≤ length table.now }
+    ensures { result ≡ has_module class (nodes_of table.now classes.now) }
 {
-    for entry in built {
-        if entry.class == class {
-            return Some(&entry.ident);
+    for (number, each) in classes.iter().enumerate() {
+        if *each == class && is_module_at(table, number) {
+            return true;
         }
     }
-    None
+    false
 }
 
-/// What is built for the class of a term.
-fn built_for<'a>(nodes: &[Node], built: &'a [Entry], ident: &Ident) -> Option<&'a Ident>
-    ensures { option_copied result ≡ ident_built nodes.now built.now ident.now }
+/// The name of a hole.
+/// Of two numbers of holes that of the lesser name.
+fn lesser_number(table: &IdentTable, best: Option<usize>, number: usize) -> Option<usize>
+    requires number { number < length table.now }
+    requires best { (k : ℕ) → best ≡ Some k → k < length table.now }
+    ensures lesser { (name : Option Text) → number_built table.now best ≡ hole_of name → number_built table.now result ≡ hole_of (lesser name (hole_at table.now number)) }
+    ensures below { (k : ℕ) → result ≡ Some k → k < length table.now }
 {
-    match class_of(nodes, ident) {
-        Some(class) => entry_at(built, class),
-        None => None,
+    let Some(new) = hole_name(table, number) else {
+        return best;
+    };
+    let Some(before) = best else {
+        return Some(number);
+    };
+    match hole_name(table, before) {
+        Some(old) if !is_before(new, old) => best,
+        _ => Some(number),
     }
+}
+
+/// The least hole of a class.
+fn find_least_hole(table: &IdentTable, classes: &[usize], class: usize) -> Option<usize>
+    requires { length classes.now ≤ length table.now }
+    ensures least { number_built table.now result ≡ hole_of (least_hole class (nodes_of table.now classes.now)) }
+    ensures below { (k : ℕ) → result ≡ Some k → k < length table.now }
+{
+    let mut best = None;
+    for (number, each) in classes.iter().enumerate() {
+        if *each == class {
+            best = lesser_number(table, best, number);
+        }
+    }
+    best
+}
+
+/// What a class without a module is.
+fn class_hole_number(table: &IdentTable, classes: &[usize], class: usize) -> Option<usize>
+    requires { length classes.now ≤ length table.now }
+    ensures hole { number_built table.now result ≡ hole_ready (nodes_of table.now classes.now) class }
+    ensures below { (k : ℕ) → result ≡ Some k → k < length table.now }
+{
+    if class_has_module(table, classes, class) {
+        return None;
+    }
+    find_least_hole(table, classes, class)
+}
+
+/// What is built for the class of an identity.
+fn built_for(classes: &[usize], built: &[Option<usize>], number: usize) -> Option<usize>
+    requires number { number < length classes.now }
+    requires length { length built.now ≡ length classes.now }
+    requires classes { (k : ℕ) → Among k classes.now → k < length classes.now }
+    ensures { result ≡ built_for classes.now built.now number }
+{
+    let class = classes[number];
+    built[class]
 }
 
 /// What is built for the fills of a unit, where all are built.
 fn build_fills(
     alloc: Global,
-    nodes: &[Node],
-    built: &[Entry],
-    fills: &[Fill],
-) -> Result<Option<Fills>, AllocError>
-    ensures { IfOk result (λ r. r ≡ fills_built nodes.now built.now fills.now) }
+    classes: &[usize],
+    built: &[Option<usize>],
+    fills: &[NumberFill],
+) -> Result<Option<NumberFills>, AllocError>
+    requires length { length built.now ≡ length classes.now }
+    requires classes { (k : ℕ) → Among k classes.now → k < length classes.now }
+    requires fills { AreFillsBelow (length classes.now) fills.now }
+    ensures { IfOk result (λ r. r ≡ numbers_built classes.now built.now fills.now) }
 {
-    let mut all = Items::new(alloc);
+    let mut all = NumberFills::new(alloc);
     for each in fills {
-        match built_for(nodes, built, &each.ident) {
-            Some(ident) => all.push(Fill {
+        match built_for(classes, built, each.ident) {
+            Some(ident) => all.push(NumberFill {
                 hole: each.hole.copied(alloc)?,
-                ident: ident.copied(alloc)?,
+                ident,
             })?,
             None => return Ok(None),
         }
@@ -70,286 +118,294 @@ fn build_fills(
     Ok(Some(all))
 }
 
-fn class_has_module(nodes: &[Node], class: usize) -> bool
-    ensures { result ≡ has_module class nodes.now }
-{
-    for node in nodes {
-        if node.class == class && is_of_module(&node.ident) {
-            return true;
-        }
-    }
-    false
+/// What a class can be.
+#[derive(Drop)]
+pub enum Ready {
+    Hole {
+        number: usize,
+    },
+    Module {
+        component: Name,
+        fills: NumberFills,
+        module: Name,
+    },
 }
 
-#[tactic(auto, using(crate::proofs::Pushing::variant_equations))]
-fn hole_in_class(alloc: Global, node: &Node, class: usize) -> Result<Option<Name>, AllocError>
-    ensures { IfOk result (λ r. r ≡ class_hole class node.now) }
-{
-    if node.class != class {
-        return Ok(None);
-    }
-    match &node.ident {
-        Ident::Hole { name } => Ok(Some(name.copied(alloc)?)),
-        Ident::Module { .. } => Ok(None),
-    }
-}
-
-/// The least hole of a class.
-fn find_least_hole(alloc: Global, nodes: &[Node], class: usize) -> Result<Option<Name>, AllocError>
-    ensures { IfOk result (λ r. r ≡ least_hole class nodes.now) }
-{
-    let mut best = None;
-    for node in nodes {
-        best = lesser_name(best, hole_in_class(alloc, node, class)?);
-    }
-    Ok(best)
-}
-
-fn least_hole_ident(
+/// A module with what is built for its fills, where all are built.
+fn ready_module(
     alloc: Global,
-    nodes: &[Node],
-    class: usize,
-) -> Result<Option<Ident>, AllocError>
-    ensures { IfOk result (λ r. r ≡ hole_ready nodes.now class) }
-{
-    if class_has_module(nodes, class) {
-        return Ok(None);
-    }
-    match find_least_hole(alloc, nodes, class)? {
-        Some(name) => Ok(Some(Ident::Hole { name })),
-        None => Ok(None),
-    }
-}
-
-fn module_ident(
-    alloc: Global,
-    unit: &Unit,
+    classes: &[usize],
+    built: &[Option<usize>],
+    component: &Name,
+    fills: &[NumberFill],
     module: &Name,
-    fills: Option<Fills>,
-) -> Result<Option<Ident>, AllocError>
-    ensures { IfOk result (λ r. r ≡ module_of unit.now module.now fills) }
+) -> Result<Option<Ready>, AllocError>
+    requires length { length built.now ≡ length classes.now }
+    requires classes { (k : ℕ) → Among k classes.now → k < length classes.now }
+    requires fills { AreFillsBelow (length classes.now) fills.now }
+    ensures { IfOk result (λ r. r ≡ made_of component.now «module».now (numbers_built classes.now built.now fills.now)) }
 {
-    match fills {
-        Some(fills) => {
-            let component = unit.component.copied(alloc)?;
-            let unit = Boxed::new(alloc, Unit { component, fills })?;
-            Ok(Some(Ident::Module {
-                unit,
-                module: module.copied(alloc)?,
-            }))
-        }
-        None => Ok(None),
-    }
-}
-
-/// What a class is by one of its terms, where that can be built.
-#[tactic(auto, using(crate::proofs::Grounded::ready_equations))]
-fn build_term(
-    alloc: Global,
-    nodes: &[Node],
-    built: &[Entry],
-    class: usize,
-    ident: &Ident,
-) -> Result<Option<Ident>, AllocError>
-    ensures { IfOk result (λ r. r ≡ term_ready nodes.now built.now class ident.now) }
-{
-    match ident {
-        Ident::Hole { .. } => {
-            let hole = least_hole_ident(alloc, nodes, class)?;
-            Ok(hole)
-        }
-        Ident::Module { unit, module } => {
-            let unit = unit.get();
-            let fills = build_fills(alloc, nodes, built, unit.fills.as_slice())?;
-            let made = module_ident(alloc, unit, module, fills)?;
-            Ok(made)
-        }
-    }
-}
-
-/// The entry of a node's class, where it is not built and can be.
-fn build_node(
-    alloc: Global,
-    nodes: &[Node],
-    built: &[Entry],
-    node: &Node,
-) -> Result<Option<Entry>, AllocError>
-    ensures { IfOk result (λ r. r ≡ node_ready nodes.now built.now node.now) }
-{
-    if let Some(_ident) = entry_at(built, node.class) {
-        return Ok(None);
-    }
-    match build_term(alloc, nodes, built, node.class, &node.ident)? {
-        Some(ident) => Ok(Some(Entry {
-            class: node.class,
-            ident,
+    match build_fills(alloc, classes, built, fills)? {
+        Some(fills) => Ok(Some(Ready::Module {
+            component: component.copied(alloc)?,
+            fills,
+            module: module.copied(alloc)?,
         })),
         None => Ok(None),
     }
 }
 
-/// The first class that is not built and can be.
-fn build_next(alloc: Global, nodes: &[Node], built: &[Entry]) -> Result<Option<Entry>, AllocError>
-    ensures { IfOk result (λ r. r ≡ first_ready nodes.now built.now nodes.now) }
+fn ready_hole(number: Option<usize>) -> Option<Ready>
+    ensures { result ≡ option_map Hole number }
 {
-    for node in nodes {
-        if let Some(entry) = build_node(alloc, nodes, built, node)? {
-            return Ok(Some(entry));
-        }
-    }
-    Ok(None)
-}
-
-/// One entry more, where there is one.
-fn add_next(alloc: Global, nodes: &[Node], built: &mut Vec<Entry>) -> Result<bool, AllocError>
-    ensures { IfOk result (λ more. Pushes (first_ready nodes.now built.old.items nodes.now) built.old.items built.new.items more) }
-{
-    match build_next(alloc, nodes, built.as_slice())? {
-        Some(entry) => {
-            built.push(entry)?;
-            Ok(true)
-        }
-        None => Ok(false),
+    match number {
+        Some(number) => Some(Ready::Hole { number }),
+        None => None,
     }
 }
 
-/// The entry of a class, where it is not built and can be.
-fn build_class(
+/// What a class is by one of its identities, where that can be built.
+fn find_ready(
     alloc: Global,
-    nodes: &[Node],
-    built: &[Entry],
-    class: usize,
-) -> Result<Option<Entry>, AllocError>
-    ensures { IfOk result (λ r. r ≡ class_ready class nodes.now built.now nodes.now) }
+    table: &IdentTable,
+    classes: &[usize],
+    built: &[Option<usize>],
+    number: usize,
+) -> Result<Option<Ready>, AllocError>
+    requires stage { IsStage table.now classes.now built.now }
+    requires number { number < length classes.now }
+    ensures ready { IfOk result (λ r. option_map (ready_ident table.now) r ≡ term_ready (nodes_of table.now classes.now) (built_of table.now built.now) (get_or classes.now number 0) (ident_of table.now number)) }
+    ensures below { IfOk result (λ r. (x : Ready) → r ≡ Some x → IsReadyBelow (length table.now) x) }
 {
-    for node in nodes {
-        if node.class == class {
-            if let Some(entry) = build_node(alloc, nodes, built, node)? {
-                return Ok(Some(entry));
-            }
+    match table.node_at(number) {
+        IdentNode::Hole { .. } => {
+            let hole = class_hole_number(table, classes, classes[number]);
+            Ok(ready_hole(hole))
+        }
+        IdentNode::Module {
+            component,
+            fills,
+            module,
+        } => {
+            let fills = fills.as_slice();
+            let ready = ready_module(alloc, classes, built, component, fills, module)?;
+            Ok(ready)
         }
     }
-    Ok(None)
 }
 
-/// The entry of a class more, where it is not built and can be.
-fn add_class(
+/// The number of what a class is.
+fn put_ready(table: &mut IdentTable, ready: Ready) -> Result<usize, AllocError>
+    requires below { IsReadyBelow (length table.old) ready }
+    requires table { IsIdentTable table.old }
+    ensures number { IfOk result (λ n. slice_get table.new n ≡ Some (ready_ident table.old ready)) }
+    ensures grows { IfOk result (λ n. Grows table.old table.new) }
+    ensures table { IfOk result (λ n. IsIdentTable table.new) }
+{
+    match ready {
+        Ready::Hole { number } => Ok(number),
+        Ready::Module {
+            component,
+            fills,
+            module,
+        } => {
+            let number = table.number_module(component, fills, module)?;
+            Ok(number)
+        }
+    }
+}
+
+/// What the class of an identity is, where it is not built and can be.
+fn find_new(
     alloc: Global,
-    nodes: &[Node],
-    built: &mut Vec<Entry>,
-    class: usize,
+    table: &IdentTable,
+    classes: &[usize],
+    built: &[Option<usize>],
+    number: usize,
+) -> Result<Option<Ready>, AllocError>
+    requires stage { IsStage table.now classes.now built.now }
+    requires number { number < length classes.now }
+    ensures ready { IfOk result (λ r. option_map (ready_entry table.now (get_or classes.now number 0)) r ≡ node_ready (nodes_of table.now classes.now) (built_of table.now built.now) (node_at table.now classes.now number)) }
+    ensures below { IfOk result (λ r. (x : Ready) → r ≡ Some x → IsReadyBelow (length table.now) x) }
+{
+    if let Some(_ident) = built_for(classes, built, number) {
+        return Ok(None);
+    }
+    let ready = find_ready(alloc, table, classes, built, number)?;
+    Ok(ready)
+}
+
+/// Notes what a class is.
+fn set_built(built: &mut [Option<usize>], class: usize, ident: usize)
+    requires { class < length built.old }
+    ensures { built.new ≡ set built.old class (Some ident) }
+{
+    built[class] = Some(ident);
+}
+
+/// Builds the class of an identity, where it is not built and can be.
+fn build_class_of(
+    alloc: Global,
+    table: &mut IdentTable,
+    classes: &[usize],
+    built: &mut [Option<usize>],
+    number: usize,
 ) -> Result<bool, AllocError>
-    ensures { IfOk result (λ more. Pushes (class_ready class nodes.now built.old.items nodes.now) built.old.items built.new.items more) }
+    requires stage { IsStage table.old classes.now built.old }
+    requires number { number < length classes.now }
+    ensures stage { IfOk result (λ more. IsStage table.new classes.now built.new) }
+    ensures steps { IfOk result (λ more. Steps classes.now table.old built.old table.new built.new (node_ready (nodes_of table.old classes.now) (built_of table.old built.old) (node_at table.old classes.now number) ≡ None) more) }
 {
-    match build_class(alloc, nodes, built.as_slice(), class)? {
-        Some(entry) => {
-            built.push(entry)?;
+    match find_new(alloc, table, classes, built, number)? {
+        Some(ready) => {
+            let ident = put_ready(table, ready)?;
+            set_built(built, classes[number], ident);
             Ok(true)
         }
         None => Ok(false),
     }
 }
 
-/// Builds all classes. The order in which they are tried only saves time: those that are left are found one by one.
-pub fn build(alloc: Global, nodes: &[Node]) -> Result<Vec<Entry>, AllocError>
-    ensures stands { IfOk result (λ built. (es : List Equation) → IsTable es nodes.now → Stands es nodes.now built.items) }
-    ensures ends { IfOk result (λ built. first_ready nodes.now built.items nodes.now ≡ None) }
+/// Builds the classes of those of these identities that can be built.
+fn build_some(
+    alloc: Global,
+    table: &mut IdentTable,
+    classes: &[usize],
+    built: &mut [Option<usize>],
+    numbers: &[usize],
+) -> Result<(), AllocError>
+    requires { IsStage table.old classes.now built.old }
+    ensures stage { IfOk result (λ r. IsStage table.new classes.now built.new) }
+    ensures follows { IfOk result (λ r. Follows classes.now table.old built.old table.new built.new) }
 {
-    let order = list_order(alloc, nodes)?;
-    let mut built = Vec::new(alloc);
-    'classes: for class in order.as_slice() {
-        add_class(alloc, nodes, &mut built, *class)?;
+    for number in numbers {
+        if *number < classes.len() {
+            build_class_of(alloc, table, classes, built, *number)?;
+        }
     }
-    'steps: while add_next(alloc, nodes, &mut built)? {}
+    Ok(())
+}
+
+/// One look at each identity. Whether a class was built.
+fn build_pass(
+    alloc: Global,
+    table: &mut IdentTable,
+    classes: &[usize],
+    built: &mut [Option<usize>],
+) -> Result<bool, AllocError>
+    requires { IsStage table.old classes.now built.old }
+    ensures stage { IfOk result (λ r. IsStage table.new classes.now built.new) }
+    ensures steps { IfOk result (λ more. Steps classes.now table.old built.old table.new built.new (first_ready (nodes_of table.old classes.now) (built_of table.old built.old) (nodes_of table.old classes.now) ≡ None) more) }
+{
+    let mut more = false;
+    for number in 0..classes.len() {
+        if build_class_of(alloc, table, classes, built, number)? {
+            more = true;
+        }
+    }
+    Ok(more)
+}
+
+/// Puts the numbers of the modules, or of the holes, to those of their classes.
+fn add_members(
+    table: &IdentTable,
+    classes: &[usize],
+    modules: bool,
+    members: &mut [Vec<usize>],
+) -> Result<(), AllocError>
+    requires { length classes.now ≤ length table.now }
+{
+    for (number, class) in classes.iter().enumerate() {
+        if *class < members.len() && is_module_at(table, number) == modules {
+            members[*class].push(number)?;
+        }
+    }
+    Ok(())
+}
+
+/// The numbers of each class, modules first: where a class has a module, no hole is looked at.
+fn list_members(
+    alloc: Global,
+    table: &IdentTable,
+    classes: &[usize],
+) -> Result<Vec<Vec<usize>>, AllocError>
+    requires { length classes.now ≤ length table.now }
+{
+    let mut members = Vec::with_capacity(alloc, classes.len())?;
+    for _class in classes {
+        members.push(Vec::new(alloc))?;
+    }
+    add_members(table, classes, true, members.as_mut_slice())?;
+    add_members(table, classes, false, members.as_mut_slice())?;
+    Ok(members)
+}
+
+/// Builds classes in this order.
+fn build_in_order(
+    alloc: Global,
+    table: &mut IdentTable,
+    classes: &[usize],
+    built: &mut [Option<usize>],
+    order: &[usize],
+) -> Result<(), AllocError>
+    requires { IsStage table.old classes.now built.old }
+    ensures stage { IfOk result (λ r. IsStage table.new classes.now built.new) }
+    ensures follows { IfOk result (λ r. Follows classes.now table.old built.old table.new built.new) }
+{
+    let members = list_members(alloc, table, classes)?;
+    for class in order {
+        if *class < members.len() {
+            build_some(alloc, table, classes, built, members[*class].as_slice())?;
+        }
+    }
+    Ok(())
+}
+
+/// So many classes, none of which is built.
+fn none_built(alloc: Global, count: usize) -> Result<Vec<Option<usize>>, AllocError>
+    ensures { IfOk result (λ r. r.items ≡ replicate count None) }
+{
+    let mut built = Vec::with_capacity(alloc, count)?;
+    for _class in 0..count {
+        built.push(None)?;
+    }
     Ok(built)
 }
 
-fn is_before(a: &Name, b: &Name) -> bool
-    ensures { result ≡ is_less (slice_cmp nat_cmp a.now b.now) }
-{
-    match compare(a, b) {
-        Ordering::Less => true,
-        Ordering::Equal => false,
-        Ordering::Greater => false,
-    }
-}
-
-/// How many fills come before a hole.
-fn place_of(fills: &[Fill], hole: &Name) -> usize
-    ensures { result ≡ place hole.now fills.now }
-{
-    for (i, each) in fills.iter().enumerate() {
-        if !is_before(&each.hole, hole) {
-            return i;
-        }
-    }
-    fills.len()
-}
-
-#[tactic(auto, using(crate::proofs::Pushing::variant_equations))]
-fn is_hole_of(ident: &Ident, hole: &Name) -> bool
-    ensures { result ≡ is_same ident.now (Hole hole.now) }
-{
-    match ident {
-        Ident::Hole { name } => *name == *hole,
-        Ident::Module { .. } => false,
-    }
-}
-
-fn insert_fill(fills: &mut Vec<Fill>, fill: Fill) -> Result<(), AllocError>
-    ensures { OnOk result (fills.new.items ≡ inserted fill fills.old.items) }
-{
-    let at = place_of(fills.as_slice(), &fill.hole);
-    fills.insert(at, fill)?;
-    Ok(())
-}
-
-/// Puts a fill for the hole among the others, unless it is the hole itself or is there.
-fn put_fill(
+/// Builds all classes.
+fn build_all(
     alloc: Global,
-    hole: &Name,
-    ident: &Ident,
-    fills: &mut Vec<Fill>,
+    table: &mut IdentTable,
+    classes: &[usize],
+    built: &mut [Option<usize>],
+    order: &[usize],
 ) -> Result<(), AllocError>
-    ensures { OnOk result (fills.new.items ≡ hole_put hole.now (Some ident.now) fills.old.items) }
+    requires { IsStage table.old classes.now built.old }
+    ensures stage { IfOk result (λ r. IsStage table.new classes.now built.new) }
+    ensures follows { IfOk result (λ r. Follows classes.now table.old built.old table.new built.new) }
+    ensures ends { IfOk result (λ r. first_ready (nodes_of table.old classes.now) (built_of table.new built.new) (nodes_of table.old classes.now) ≡ None) }
 {
-    if is_hole_of(ident, hole) {
-        return Ok(());
-    }
-    if let Some(_ident) = filler(fills.as_slice(), hole) {
-        return Ok(());
-    }
-    let fill = Fill {
-        hole: hole.copied(alloc)?,
-        ident: ident.copied(alloc)?,
-    };
-    insert_fill(fills, fill)?;
+    build_in_order(alloc, table, classes, built, order)?;
+    'passes: while build_pass(alloc, table, classes, built)? {}
     Ok(())
 }
 
-fn put_fill_of(
+/// Builds all classes, each as a number of the table. The order in which they are tried only saves time: those that are left are found
+/// one by one.
+pub fn build(
     alloc: Global,
-    built: &[Entry],
-    node: &Node,
-    fills: &mut Vec<Fill>,
-) -> Result<(), AllocError>
-    ensures { OnOk result (fills.new.items ≡ term_put node.now.ident (built_at node.now.class built.now) fills.old.items) }
+    table: &mut IdentTable,
+    classes: &[usize],
+    order: &[usize],
+) -> Result<Vec<Option<usize>>, AllocError>
+    requires length { length classes.now ≡ length table.old }
+    requires classes { (k : ℕ) → Among k classes.now → k < length classes.now }
+    ensures grows { IfOk result (λ built. Grows table.old table.new) }
+    ensures below { IfOk result (λ built. AreBuiltBelow (length table.new) built.items) }
+    ensures stands { IfOk result (λ built. (es : List Equation) → IsTable es (nodes_of table.old classes.now) → Stands es (nodes_of table.old classes.now) (built_of table.new built.items)) }
+    ensures ends { IfOk result (λ built. first_ready (nodes_of table.old classes.now) (built_of table.new built.items) (nodes_of table.old classes.now) ≡ None) }
 {
-    if let Ident::Hole { name } = &node.ident {
-        if let Some(ident) = entry_at(built, node.class) {
-            put_fill(alloc, name, ident, fills)?;
-        }
-    }
-    Ok(())
-}
-
-/// The fills of the holes of the table, in order of their holes.
-pub fn list_answer(alloc: Global, nodes: &[Node], built: &[Entry]) -> Result<Fills, AllocError>
-    ensures { IfOk result (λ r. r ≡ answer built.now nodes.now []) }
-{
-    let mut fills = Vec::new(alloc);
-    for node in nodes {
-        put_fill_of(alloc, built, node, &mut fills)?;
-    }
-    Ok(Items::from_vec(fills))
+    let mut built = none_built(alloc, table.len())?;
+    build_all(alloc, table, classes, built.as_mut_slice(), order)?;
+    Ok(built)
 }

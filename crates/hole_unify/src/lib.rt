@@ -2,15 +2,20 @@
 //! sides of each equation one identity, and the exact reason where there are none.
 #![tactic(auto)]
 
+mod answer;
 mod build;
+mod classes;
 mod close;
+mod edge;
 mod equation;
 mod laws;
+mod lookup;
+mod numbers;
 mod order;
+mod pair;
 mod reach;
 mod solve;
-mod table;
 
 pub use equation::{Equation, Equations, Head, IdentUnifyError};
 pub use laws::{answers_are_one, clash_has_no_unifier, cycle_has_no_unifier};
-pub use solve::unify_idents;
+pub use solve::{SharedFills, unify_idents, unify_shared};

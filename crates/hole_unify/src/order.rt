@@ -1,26 +1,28 @@
-//! An order in which classes are built without looking at any of them twice. Nothing is proved of it: what is built is right in
-//! any order.
+//! An order of the classes in which each comes after those that it leads to. Nothing is proved of it: where it serves, that is seen,
+//! and what is built is right in any order.
 
-use crate::reach::{Edge, list_edges, list_ends};
-use crate::table::Node;
+use crate::edge::Edge;
+use crate::reach::empty_lists;
 use std::alloc::{AllocError, Global};
 
-fn turn(alloc: Global, edges: &[Edge]) -> Result<Vec<Edge>, AllocError> {
-    let mut turned = Vec::new(alloc);
+/// For each class the starts of the edges to it.
+fn list_starts(alloc: Global, edges: &[Edge], count: usize) -> Result<Vec<Vec<usize>>, AllocError> {
+    let mut starts = empty_lists(alloc, count)?;
     for edge in edges {
-        turned.push(Edge {
-            from: edge.to,
-            to: edge.from,
-        })?;
+        if let Some(classes) = starts.get_mut(edge.to) {
+            classes.push(edge.from)?;
+        }
     }
-    Ok(turned)
+    Ok(starts)
 }
 
 /// How many edges lead from each class.
-fn count_ends(alloc: Global, ends: &[Vec<usize>]) -> Result<Vec<usize>, AllocError> {
-    let mut counts = Vec::new(alloc);
-    for each in ends {
-        counts.push(each.len())?;
+fn count_edges(alloc: Global, edges: &[Edge], count: usize) -> Result<Vec<usize>, AllocError> {
+    let mut counts: Vec<usize> = vec![in alloc; 0; count]?;
+    for edge in edges {
+        if let Some(number) = counts.get_mut(edge.from) {
+            *number = number.saturating_add(1);
+        }
     }
     Ok(counts)
 }
@@ -73,18 +75,12 @@ fn release_at(
     Ok(())
 }
 
-/// The numbers of the classes, each after those of its fills, as far as there is such an order.
-pub fn list_order(alloc: Global, nodes: &[Node]) -> Result<Vec<usize>, AllocError> {
-    let edges = list_edges(alloc, nodes)?;
-    let ends = list_ends(alloc, edges.as_slice(), nodes.len())?;
-    let starts = list_ends(
-        alloc,
-        turn(alloc, edges.as_slice())?.as_slice(),
-        nodes.len(),
-    )?;
-    let mut counts = count_ends(alloc, ends.as_slice())?;
+/// The numbers of the classes below `count`, each after those to which its edges lead, as far as there is such an order.
+pub fn list_order(alloc: Global, edges: &[Edge], count: usize) -> Result<Vec<usize>, AllocError> {
+    let starts = list_starts(alloc, edges, count)?;
+    let mut counts = count_edges(alloc, edges, count)?;
     let mut order = list_last(alloc, counts.as_slice())?;
-    for place in 0..nodes.len() {
+    for place in 0..count {
         release_at(starts.as_slice(), counts.as_mut_slice(), &mut order, place)?;
     }
     Ok(order)

@@ -1,113 +1,107 @@
 //! Which classes a class reaches through fills.
-ghost use Rattle.std.specs.Prelude.{◌≡◌, ℕ, ◌+◌, ◌<◌, List, [], ◌++◌, length, map, get_or, replicate, false, IfOk, OnOk};
+ghost use Rattle.std.specs.Prelude.{◌≡◌, ℕ, ◌+◌, ◌<◌, List, [], ◌∷◌, ◌++◌, length, map, get_or, replicate, true, false, IfOk, OnOk};
 ghost use Rattle.bp_base.specs.Lists.{Among};
-ghost use Rattle.unit_identity.specs.Fill.{found};
-ghost use Rattle.hole_unify.specs.declared.table.Node.{Node};
-ghost use Rattle.hole_unify.specs.declared.reach.Edge.{Edge};
-ghost use Rattle.hole_unify.specs.Reach.{class_edge, fill_edge, fills_edges, term_edges, edges_of, ends_of, ends_upto, free, AreBelow, Agree, visited, all_visited, IsReached, holds, on_cycle, lesser, hole_cycle, least_cycle};
+ghost use Rattle.bp_base.specs.declared.ident.Ident.{Ident};
+ghost use Rattle.ident_table.specs.Numbers.{node_of, AreFillsBelow, IsNodeBelow};
+ghost use Rattle.hole_unify.specs.declared.edge.Edge.{Edge};
+ghost use Rattle.hole_unify.specs.Table.{nodes_of};
+ghost use Rattle.hole_unify.specs.Numbers.{number_at};
+ghost use Rattle.hole_unify.specs.Reach.{number_edge, number_edges, node_edges, edges_of, ends_upto, free, AreBelow, Agree, visited, all_visited, IsReached, holds, on_cycle, lesser, term_cycle, least_cycle, Fall};
 
-use crate::table::{Node, class_of};
-use bp_base::{Fill, Ident, Name, compare};
+use crate::edge::Edge;
+use crate::lookup::{filler, is_before};
+use bp_base::{Name, compare};
+use ident_table::{IdentNode, IdentTable, NumberFill};
 use std::alloc::{AllocError, Global};
 use std::cmp::Ordering;
-use unit_identity::filler;
 
-/// From the class of a module to that of one of its fills.
-#[derive(Debug, Drop, Clone, Copy)]
-pub struct Edge {
-    pub from: usize,
-    pub to: usize,
-}
-
-fn add_edge(edges: &mut Vec<Edge>, from: usize, to: Option<usize>) -> Result<(), AllocError>
-    ensures { OnOk result (edges.new.items ≡ edges.old.items ++ class_edge from to) }
+fn add_edge_at(
+    classes: &[usize],
+    from: usize,
+    fills: &[NumberFill],
+    hole: &Name,
+    edges: &mut Vec<Edge>,
+) -> Result<(), AllocError>
+    requires { AreFillsBelow (length classes.now) fills.now }
+    ensures { OnOk result (edges.new.items ≡ edges.old.items ++ number_edge classes.now from (number_at hole.now fills.now)) }
 {
-    if let Some(to) = to {
+    if let Some(number) = filler(fills, hole) {
+        let to = classes[number];
         edges.push(Edge { from, to })?;
     }
     Ok(())
 }
 
-fn add_edge_at(
-    nodes: &[Node],
-    from: usize,
-    fills: &[Fill],
-    hole: &Name,
-    edges: &mut Vec<Edge>,
-) -> Result<(), AllocError>
-    ensures { OnOk result (edges.new.items ≡ edges.old.items ++ fill_edge nodes.now from (found hole.now fills.now)) }
-{
-    if let Some(ident) = filler(fills, hole) {
-        add_edge(edges, from, class_of(nodes, ident))?;
-    }
-    Ok(())
-}
-
 fn add_edges_of_fills(
-    nodes: &[Node],
+    classes: &[usize],
     from: usize,
-    fills: &[Fill],
+    fills: &[NumberFill],
     edges: &mut Vec<Edge>,
 ) -> Result<(), AllocError>
-    ensures { OnOk result (edges.new.items ≡ edges.old.items ++ fills_edges nodes.now from fills.now fills.now) }
+    requires { AreFillsBelow (length classes.now) fills.now }
+    ensures { OnOk result (edges.new.items ≡ edges.old.items ++ number_edges classes.now from fills.now fills.now) }
 {
     for each in fills {
-        add_edge_at(nodes, from, fills, &each.hole, edges)?;
+        add_edge_at(classes, from, fills, &each.hole, edges)?;
     }
     Ok(())
 }
 
-#[tactic(auto, using(crate::proofs::Opening::edge_equations))]
-fn add_edges_of_term(
-    nodes: &[Node],
+fn add_edges_of_node(
+    classes: &[usize],
     from: usize,
-    ident: &Ident,
+    node: &IdentNode,
     edges: &mut Vec<Edge>,
 ) -> Result<(), AllocError>
-    ensures { OnOk result (edges.new.items ≡ edges.old.items ++ term_edges nodes.now from ident.now) }
+    requires { IsNodeBelow (length classes.now) node.now }
+    ensures { OnOk result (edges.new.items ≡ edges.old.items ++ node_edges classes.now from node.now) }
 {
-    match ident {
-        Ident::Hole { .. } => Ok(()),
-        Ident::Module { unit, .. } => {
-            add_edges_of_fills(nodes, from, unit.get().fills.as_slice(), edges)?;
+    match node {
+        IdentNode::Hole { .. } => Ok(()),
+        IdentNode::Module { fills, .. } => {
+            add_edges_of_fills(classes, from, fills.as_slice(), edges)?;
             Ok(())
         }
     }
 }
 
 /// From the class of each module to those of its fills.
-pub fn list_edges(alloc: Global, nodes: &[Node]) -> Result<Vec<Edge>, AllocError>
-    ensures { IfOk result (λ r. r.items ≡ edges_of nodes.now nodes.now) }
+pub fn list_edges(
+    alloc: Global,
+    table: &IdentTable,
+    classes: &[usize],
+) -> Result<Vec<Edge>, AllocError>
+    requires { length classes.now ≡ length table.now }
+    ensures { IfOk result (λ r. r.items ≡ edges_of (nodes_of table.now classes.now) (nodes_of table.now classes.now)) }
 {
     let mut edges = Vec::new(alloc);
-    for each in nodes {
-        add_edges_of_term(nodes, each.class, &each.ident, &mut edges)?;
+    for number in 0..table.len() {
+        add_edges_of_node(classes, classes[number], table.node_at(number), &mut edges)?;
     }
     Ok(edges)
 }
 
-/// The ends of the edges from a class.
-fn list_ends_of(alloc: Global, edges: &[Edge], class: usize) -> Result<Vec<usize>, AllocError>
-    ensures { IfOk result (λ r. r.items ≡ ends_of class edges.now) }
+/// So many lists without items.
+pub fn empty_lists(alloc: Global, count: usize) -> Result<Vec<Vec<usize>>, AllocError>
+    ensures { IfOk result (λ r. map (λ v. v.items) r.items ≡ replicate count []) }
 {
-    let mut ends = Vec::new(alloc);
-    for edge in edges {
-        if edge.from == class {
-            ends.push(edge.to)?;
-        }
+    let mut lists = Vec::new(alloc);
+    for _ in 0..count {
+        lists.push(Vec::new(alloc))?;
     }
-    Ok(ends)
+    Ok(lists)
 }
 
 /// The ends of the edges from each of the first classes.
-pub fn list_ends(alloc: Global, edges: &[Edge], count: usize) -> Result<Vec<Vec<usize>>, AllocError>
+fn list_ends(alloc: Global, edges: &[Edge], count: usize) -> Result<Vec<Vec<usize>>, AllocError>
+    requires { (e : Edge) → Among e edges.now → e.from < count }
     ensures { IfOk result (λ r. map (λ v. v.items) r.items ≡ ends_upto count edges.now) }
 {
-    let mut all = Vec::new(alloc);
-    for class in 0..count {
-        all.push(list_ends_of(alloc, edges, class)?)?;
+    let mut ends = empty_lists(alloc, count)?;
+    for edge in edges {
+        ends[edge.from].push(edge.to)?;
     }
-    Ok(all)
+    Ok(ends)
 }
 
 /// Puts a class at the end of those that are reached, where it is not among them. The marks say of each class whether it is.
@@ -194,25 +188,26 @@ fn is_on_cycle(alloc: Global, ends: &[Vec<usize>], class: usize) -> Result<bool,
     Ok(has_class(done.as_slice(), class))
 }
 
-/// The node's hole, where its class reaches itself.
+/// The hole of a node, where its class reaches itself.
 fn hole_on_cycle(
     alloc: Global,
     ends: &[Vec<usize>],
-    node: &Node,
+    node: &IdentNode,
+    class: usize,
 ) -> Result<Option<Name>, AllocError>
-    requires class { node.now.class < length ends.now }
+    requires class { class < length ends.now }
     requires below { AreBelow (length ends.now) (map (λ v. v.items) ends.now) }
-    ensures { IfOk result (λ r. (edges : List Edge) → map (λ v. v.items) ends.now ≡ ends_upto (length ends.now) edges → r ≡ hole_cycle edges node.now) }
+    ensures { IfOk result (λ r. (edges : List Edge) (table : List Ident) → map (λ v. v.items) ends.now ≡ ends_upto (length ends.now) edges → r ≡ term_cycle edges class (node_of table node.now)) }
 {
-    match &node.ident {
-        Ident::Hole { name } => {
-            if is_on_cycle(alloc, ends, node.class)? {
+    match node {
+        IdentNode::Hole { name } => {
+            if is_on_cycle(alloc, ends, class)? {
                 Ok(Some(name.copied(alloc)?))
             } else {
                 Ok(None)
             }
         }
-        Ident::Module { .. } => Ok(None),
+        IdentNode::Module { .. } => Ok(None),
     }
 }
 
@@ -230,16 +225,98 @@ pub fn lesser_name(best: Option<Name>, new: Option<Name>) -> Option<Name>
     }
 }
 
-/// The least hole whose class reaches itself.
-pub fn find_cycle(alloc: Global, edges: &[Edge], nodes: &[Node]) -> Result<Option<Name>, AllocError>
-    requires classes { (x : Node) → Among x nodes.now → x.class < length nodes.now }
-    requires ends { (e : Edge) → Among e edges.now → e.to < length nodes.now }
-    ensures { IfOk result (λ r. r ≡ least_cycle edges.now nodes.now) }
+/// Whether a node is no hole before the best one.
+fn is_no_better(best: &Option<Name>, node: &IdentNode) -> bool
+    ensures { result ≡ true → (edges : List Edge) (class : ℕ) (table : List Ident) → lesser best.now (term_cycle edges class (node_of table node.now)) ≡ best.now }
 {
-    let ends = list_ends(alloc, edges, nodes.len())?;
+    match (best, node) {
+        (Some(best), IdentNode::Hole { name }) => !is_before(name, best),
+        _ => false,
+    }
+}
+
+/// The lesser of the best hole and that of a node whose class reaches itself. Only a hole before the best one is searched from.
+fn better_hole(
+    alloc: Global,
+    ends: &[Vec<usize>],
+    node: &IdentNode,
+    class: usize,
+    best: Option<Name>,
+) -> Result<Option<Name>, AllocError>
+    requires class { class < length ends.now }
+    requires below { AreBelow (length ends.now) (map (λ v. v.items) ends.now) }
+    ensures { IfOk result (λ r. (edges : List Edge) (table : List Ident) → map (λ v. v.items) ends.now ≡ ends_upto (length ends.now) edges → r ≡ lesser best (term_cycle edges class (node_of table node.now))) }
+{
+    if is_no_better(&best, node) {
+        return Ok(best);
+    }
+    let new = hole_on_cycle(alloc, ends, node, class)?;
+    Ok(lesser_name(best, new))
+}
+
+/// The place of each class in the order, and 0 for those that it leaves out.
+fn list_ranks(alloc: Global, order: &[usize], count: usize) -> Result<Vec<usize>, AllocError>
+    ensures { IfOk result (λ r. length r.items ≡ count) }
+{
+    let mut ranks = vec![in alloc; 0; count]?;
+    for (place, class) in order.iter().enumerate() {
+        if let Some(rank) = ranks.get_mut(*class) {
+            *rank = place;
+        }
+    }
+    Ok(ranks)
+}
+
+/// Whether each edge leads to a lower rank.
+fn do_ranks_fall(ranks: &[usize], edges: &[Edge]) -> bool
+    requires { (e : Edge) → Among e edges.now → (e.from < length ranks.now) × (e.to < length ranks.now) }
+    ensures { result ≡ true → Fall ranks.now edges.now }
+{
+    for edge in edges {
+        if ranks[edge.to] >= ranks[edge.from] {
+            return false;
+        }
+    }
+    true
+}
+
+/// The least hole whose class reaches itself, by searches from the classes of holes.
+fn search_cycle(
+    alloc: Global,
+    table: &IdentTable,
+    classes: &[usize],
+    edges: &[Edge],
+) -> Result<Option<Name>, AllocError>
+    requires length { length classes.now ≡ length table.now }
+    requires classes { (k : ℕ) → Among k classes.now → k < length classes.now }
+    requires ends { (e : Edge) → Among e edges.now → (e.from < length classes.now) × (e.to < length classes.now) }
+    ensures { IfOk result (λ r. r ≡ least_cycle edges.now (nodes_of table.now classes.now)) }
+{
+    let ends = list_ends(alloc, edges, classes.len())?;
     let mut best = None;
-    for node in nodes {
-        best = lesser_name(best, hole_on_cycle(alloc, ends.as_slice(), node)?);
+    for number in 0..table.len() {
+        let node = table.node_at(number);
+        best = better_hole(alloc, ends.as_slice(), node, classes[number], best)?;
     }
     Ok(best)
+}
+
+/// The least hole whose class reaches itself. Where each edge leads back in the order, there is none, which is seen at once.
+pub fn find_cycle(
+    alloc: Global,
+    table: &IdentTable,
+    classes: &[usize],
+    edges: &[Edge],
+    order: &[usize],
+) -> Result<Option<Name>, AllocError>
+    requires length { length classes.now ≡ length table.now }
+    requires classes { (k : ℕ) → Among k classes.now → k < length classes.now }
+    requires ends { (e : Edge) → Among e edges.now → (e.from < length classes.now) × (e.to < length classes.now) }
+    ensures { IfOk result (λ r. r ≡ least_cycle edges.now (nodes_of table.now classes.now)) }
+{
+    let ranks = list_ranks(alloc, order, classes.len())?;
+    if do_ranks_fall(ranks.as_slice(), edges) {
+        return Ok(None);
+    }
+    search_cycle(alloc, table, classes, edges)
 }

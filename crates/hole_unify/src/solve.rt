@@ -1,15 +1,20 @@
 //! Unification of identities.
-ghost use Rattle.std.specs.Prelude.{◌≡◌, ◌<◌, ◌+◌, ◌-◌, IfOk, IfErr};
+ghost use Rattle.std.specs.Prelude.{◌≡◌, ◌<◌, ◌+◌, ◌-◌, length, IfOk, IfErr};
+ghost use Rattle.ident_table.specs.Numbers.{fills_of, AreFillsBelow};
 ghost use Rattle.hole_unify.specs.Unifiers.{IsAnswer};
 ghost use Rattle.hole_unify.specs.Causes.{IsCause, IsLawful};
 ghost use Rattle.hole_unify.specs.Solve.{IsSettlement, IsObstacle, IsRange, IsFirst, labelled};
 
-use crate::build::{build, list_answer};
+use crate::answer::list_answer;
+use crate::build::build;
+use crate::classes::first_classes;
 use crate::close::close;
 use crate::equation::{Equation, Equations, Head, IdentUnifyError};
+use crate::numbers::list_pairs;
+use crate::order::list_order;
 use crate::reach::{find_cycle, list_edges};
-use crate::table::{Node, list_equations};
 use bp_base::{Fills, Name};
+use ident_table::{IdentTable, NumberFills};
 use std::alloc::{AllocError, Global};
 
 /// Why equations have no unifier.
@@ -19,11 +24,17 @@ pub enum Obstacle {
     Cycle { hole: Name },
 }
 
-/// What the classes of equations come to: a closed table without a cycle, or an obstacle.
-#[derive(Debug, Drop)]
+/// What the classes of equations come to: closed classes without a cycle, with an order to build them in, or an obstacle.
+#[derive(Drop)]
 pub enum Settlement {
-    Free { nodes: Vec<Node> },
-    Stuck { obstacle: Obstacle },
+    Free {
+        table: IdentTable,
+        classes: Vec<usize>,
+        order: Vec<usize>,
+    },
+    Stuck {
+        obstacle: Obstacle,
+    },
 }
 
 /// Finds the classes of the equations.
@@ -31,18 +42,31 @@ fn settle(alloc: Global, equations: &[Equation]) -> Result<Settlement, AllocErro
     requires { IsLawful equations.now }
     ensures { IfOk result (λ r. IsSettlement equations.now r) }
 {
-    let mut nodes = list_equations(alloc, equations)?;
-    if let Some((one, other)) = close(alloc, equations, nodes.as_mut_slice())? {
+    let mut table = IdentTable::new(alloc);
+    let pairs = list_pairs(alloc, &mut table, equations)?;
+    let mut classes = first_classes(alloc, table.len())?;
+    if let Some((one, other)) = close(alloc, &table, pairs, classes.as_mut_slice())? {
         let obstacle = Obstacle::Clash { one, other };
         return Ok(Settlement::Stuck { obstacle });
     }
-    let edges = list_edges(alloc, nodes.as_slice())?;
-    match find_cycle(alloc, edges.as_slice(), nodes.as_slice())? {
+    let edges = list_edges(alloc, &table, classes.as_slice())?;
+    let order = list_order(alloc, edges.as_slice(), classes.len())?;
+    match find_cycle(
+        alloc,
+        &table,
+        classes.as_slice(),
+        edges.as_slice(),
+        order.as_slice(),
+    )? {
         Some(hole) => {
             let obstacle = Obstacle::Cycle { hole };
             Ok(Settlement::Stuck { obstacle })
         }
-        None => Ok(Settlement::Free { nodes }),
+        None => Ok(Settlement::Free {
+            table,
+            classes,
+            order,
+        }),
     }
 }
 
@@ -129,6 +153,39 @@ fn refusal(
     Ok(error)
 }
 
+/// Fills whose identities are numbers of a table.
+#[derive(Drop)]
+pub struct SharedFills {
+    pub table: IdentTable,
+    pub fills: NumberFills,
+}
+
+/// The answer of `unify_idents` before it is written out: identities that are equal stand in the table once, where the written terms may
+/// be exponentially larger.
+pub fn unify_shared(alloc: Global, equations: &Equations) -> Result<SharedFills, IdentUnifyError>
+    requires { IsLawful equations.now }
+    ensures ok { IfOk result (λ shared. IsAnswer equations.now (fills_of shared.table shared.fills)) }
+    ensures below { IfOk result (λ shared. AreFillsBelow (length shared.table) shared.fills) }
+    ensures err { IfErr result (λ error. IsCause equations.now error) }
+{
+    let all = equations.as_slice();
+    match settle(alloc, all)? {
+        Settlement::Free {
+            mut table,
+            classes,
+            order,
+        } => {
+            let built = build(alloc, &mut table, classes.as_slice(), order.as_slice())?;
+            let fills = list_answer(alloc, &table, classes.as_slice(), built.as_slice())?;
+            Ok(SharedFills { table, fills })
+        }
+        Settlement::Stuck { obstacle } => {
+            let error = refusal(alloc, all, obstacle)?;
+            Err(error)
+        }
+    }
+}
+
 /// The most general fills that make the two sides of each equation one identity. Holes that become one bear the least of their
 /// names in byte order, and a hole that stays as it is has no fill. Equations are taken in their order: a refusal names the label of
 /// the first one such that those up to it and with it have no unifier. Units of one component are to have the same holes, and the
@@ -138,16 +195,7 @@ pub fn unify_idents(alloc: Global, equations: &Equations) -> Result<Fills, Ident
     ensures ok { IfOk result (λ fills. IsAnswer equations.now fills) }
     ensures err { IfErr result (λ error. IsCause equations.now error) }
 {
-    let all = equations.as_slice();
-    match settle(alloc, all)? {
-        Settlement::Free { nodes } => {
-            let built = build(alloc, nodes.as_slice())?;
-            let fills = list_answer(alloc, nodes.as_slice(), built.as_slice())?;
-            Ok(fills)
-        }
-        Settlement::Stuck { obstacle } => {
-            let error = refusal(alloc, all, obstacle)?;
-            Err(error)
-        }
-    }
+    let shared = unify_shared(alloc, equations)?;
+    let fills = shared.table.fills_at(alloc, &shared.fills)?;
+    Ok(fills)
 }
