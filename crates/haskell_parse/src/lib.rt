@@ -17,6 +17,3 @@ mod types;
 pub use parse_kinds::{one_kind, parse_kind};
 pub use parse_pats::{no_bind, one_pat, parse_pat};
 pub use parse_types::{one_type, parse_type};
-
-#[cfg(test)]
-mod tests;

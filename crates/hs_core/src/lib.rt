@@ -37,10 +37,3 @@ pub use tree::{
     Exp, Exps, FieldDecl, FieldDecls, Guard, Guards, Pat, Pats, Rhs, Written,
 };
 pub use why::Why;
-
-#[cfg(test)]
-mod base_tests;
-#[cfg(test)]
-mod group_tests;
-#[cfg(test)]
-mod tree_tests;

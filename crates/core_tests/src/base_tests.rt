@@ -1,11 +1,11 @@
-use super::*;
-use bp_base::{Assoc, Entity, Export, Fixity, Interface, Space, Ty, base_prelude, same_ident};
+use bp_base::{Assoc, Con, Entity, Export, Fixity, Interface, Space, Ty, base_prelude, same_ident};
+use hs_core::base_interface;
 use std::alloc::{AllocError, Global};
 use std::test::Fail;
 
-/// The names of the values, in byte order.
-const VALUES: &[u8] =
-    b"!! $ && * + ++ - . /= < <= == > >= >> >>= abs chr concat const curry div drop either eqChar error filter \
+/// The names of the seven types and then of the 57 values, each in byte order.
+const NAMES: &[u8] = b"Bool Char Either IO Int Maybe String \
+!! $ && * + ++ - . /= < <= == > >= >> >>= abs chr concat const curry div drop either eqChar error filter \
 flip foldl foldr fst head id length map maybe mod negate not null ord otherwise putStr putStrLn quot rem return reverse seq show snd \
 tail take uncurry undefined zip ||";
 
@@ -49,15 +49,8 @@ fn base_exports_types_then_values(rt: HostRuntime) -> Result<(), Fail> {
     let alloc = rt.alloc();
     let base = base_interface(alloc)?;
     assert!(rt; same_ident(&base.module, &base_prelude(alloc)?));
-    let exports = base.exports.as_slice();
-    assert_eq!(rt; exports.len(), 64);
-    let types = joined(alloc, &exports[..7])?;
-    assert_eq!(rt;
-        types.as_slice(),
-        b"Bool Char Either IO Int Maybe String".as_slice()
-    );
-    let values = joined(alloc, &exports[7..])?;
-    assert_eq!(rt; values.as_slice(), VALUES);
+    let names = joined(alloc, base.exports.as_slice())?;
+    assert_eq!(rt; names.as_slice(), NAMES);
     Ok(())
 }
 
@@ -154,35 +147,63 @@ fn values_have_types_and_fixities(rt: HostRuntime) -> Result<(), Fail> {
     Ok(())
 }
 
-#[test]
-fn types_have_constructors(rt: HostRuntime) -> Result<(), Fail> {
-    let alloc = rt.alloc();
-    let base = base_interface(alloc)?;
-    let either = &base.exports.as_slice()[2];
-    assert_eq!(rt; either.cons.len(), 2);
-    assert_eq!(rt; either.cons.as_slice()[0].as_bytes(), b"Left".as_slice());
-    assert_eq!(rt; either.cons.as_slice()[1].as_bytes(), b"Right".as_slice());
-    match &either.entity {
+/// Whether both constructors of `Either` are exported with it.
+fn shows_both(export: &Export) -> bool {
+    match export.cons.as_slice() {
+        [left, right] => {
+            left.as_bytes() == b"Left".as_slice() && right.as_bytes() == b"Right".as_slice()
+        }
+        _ => false,
+    }
+}
+
+/// Whether the constructor has one field, of the second parameter.
+fn is_right(alloc: Global, con: &Con) -> Result<bool, AllocError> {
+    match con.fields.as_slice() {
+        [field] => {
+            let text = type_text(alloc, &field.ty)?;
+            Ok(text.as_slice() == b"b ".as_slice())
+        }
+        _ => Ok(false),
+    }
+}
+
+/// Whether it is a data type with two parameters and two constructors, the second of which is as `Right` is.
+fn is_either(alloc: Global, entity: &Entity) -> Result<bool, AllocError> {
+    match entity {
         Entity::DataType {
             params,
             is_new,
             cons,
             ..
-        } => {
-            assert_eq!(rt; *params, 2);
-            assert!(rt; !*is_new);
-            let right = &cons.as_slice()[1];
-            assert_eq!(rt; right.fields.len(), 1);
-            let field = type_text(alloc, &right.fields.as_slice()[0].ty)?;
-            assert_eq!(rt; field.as_slice(), b"b ".as_slice());
-        }
-        _ => assert!(rt; false),
+        } => match cons.as_slice() {
+            [_, right] => Ok(*params == 2 && !*is_new && is_right(alloc, right)?),
+            _ => Ok(false),
+        },
+        _ => Ok(false),
     }
-    match &base.exports.as_slice()[6].entity {
+}
+
+/// Whether it is a synonym of `[Char]`.
+fn is_string(alloc: Global, entity: &Entity) -> Result<bool, AllocError> {
+    match entity {
         Entity::Synonym { params, body, .. } => {
-            assert_eq!(rt; *params, 0);
-            let body = type_text(alloc, body)?;
-            assert_eq!(rt; body.as_slice(), b"@ [] Char ".as_slice());
+            let text = type_text(alloc, body)?;
+            Ok(*params == 0 && text.as_slice() == b"@ [] Char ".as_slice())
+        }
+        _ => Ok(false),
+    }
+}
+
+#[test]
+fn types_have_constructors(rt: HostRuntime) -> Result<(), Fail> {
+    let alloc = rt.alloc();
+    let base = base_interface(alloc)?;
+    match base.exports.as_slice() {
+        [_, _, either, _, _, _, string, ..] => {
+            assert!(rt; shows_both(either));
+            assert!(rt; is_either(alloc, &either.entity)?);
+            assert!(rt; is_string(alloc, &string.entity)?);
         }
         _ => assert!(rt; false),
     }

@@ -1,0 +1,5 @@
+//! Tables of types, kinds and patterns with the index of their refusal.
+#![tactic(auto)]
+
+#[cfg(test)]
+mod parse_tests;
