@@ -36,6 +36,3 @@ pub use ty::{
     Kind, OrigName, OrigNames, Scheme, Space, Ty, Tys, kind_eq, same_orig_name, same_scheme,
     same_ty,
 };
-
-#[cfg(test)]
-mod tests;

@@ -15,6 +15,3 @@ pub use keeper::{ENTRY_LIMIT, KeepError, Keeper, QuietKeeper};
 pub use sink::{MemSink, QuietSink, Sink, WriteError, WriteFail, WriteFails};
 pub use stream::OutSink;
 pub use tree::{FILE_LIMIT, MemTree, QuietTree, ReadError, Tree};
-
-#[cfg(test)]
-mod tests;

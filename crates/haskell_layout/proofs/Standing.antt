@@ -1,6 +1,6 @@
 -- What holds of every layout.
 use Rattle.std.proofs.Common.{◌≡◌, ℕ, ◌+◌, Bool, true, false, List, [], ◌∷◌, ◌++◌, Option, Some, None, Ok, Err, if◌then◌else◌, append_assoc, append-nil, refl, sym, subst, ◌∙◌, inl, inr}
-use Rattle.hs_syntax.specs.declared.token.Token.{Token}
+use Rattle.hs_tokens.specs.declared.token.Token.{Token}
 use Rattle.haskell_layout.specs.declared.role.Made.{Made}
 use Rattle.haskell_layout.specs.declared.role.Made.TheVariants as m
 use Rattle.haskell_layout.specs.declared.stack.Sought.TheVariants as s

@@ -1,6 +1,6 @@
 -- Where no block is due, no implicit block is open, and nothing is made.
 use Rattle.std.proofs.Common.{◌≡◌, ℕ, ◌+◌, Bool, true, false, not, ◌&&◌, ◌==◌, List, [], ◌∷◌, ◌++◌, Option, Some, None, Ok, Err, if◌then◌else◌, refl, sym, ap, subst, ◌∙◌}
-use Rattle.hs_syntax.specs.declared.token.Token.{Token}
+use Rattle.hs_tokens.specs.declared.token.Token.{Token}
 use Rattle.haskell_layout.specs.declared.role.Role.{Role}
 use Rattle.haskell_layout.specs.declared.role.Role.TheVariants as r
 use Rattle.haskell_layout.specs.declared.role.Made.{Made}

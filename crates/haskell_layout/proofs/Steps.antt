@@ -1,7 +1,7 @@
 -- One token more.
 use Rattle.std.proofs.Common.{◌≡◌, ℕ, suc, ◌+◌, ◌<◌, List, [], ◌∷◌, ◌++◌, Option, Some, None, Ok, Err, IsSomeAnd, length, drop, get_or, append_assoc, refl, sym, ap, ◌∙◌, add-one}
 use Rattle.std.proofs.Math.Seq.{drop-cons}
-use Rattle.hs_syntax.specs.declared.token.Token.{Token}
+use Rattle.hs_tokens.specs.declared.token.Token.{Token}
 use Rattle.haskell_layout.specs.declared.progress.Progress.{Progress}
 use Rattle.haskell_layout.specs.Rules.{Moved}
 use Rattle.haskell_layout.specs.Layout.{State, Answer, before_answer, going_on, layout_from, made_tokens, token_moves}

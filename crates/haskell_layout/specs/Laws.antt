@@ -1,8 +1,8 @@
 -- What holds of every layout.
 use Rattle.std.specs.Prelude.{◌≡◌, ℕ, zero, suc, Bool, true, false, not, ◌&&◌, List, [], ◌∷◌, Ok, codes, if◌then◌else◌}
 use Rattle.bp_base.specs.Lists.{Among}
-use Rattle.hs_syntax.specs.declared.token.Token.{Token}
-use Rattle.hs_syntax.specs.declared.token.TokenKind.TheVariants as k
+use Rattle.hs_tokens.specs.declared.token.Token.{Token}
+use Rattle.hs_tokens.specs.declared.token.TokenKind.TheVariants as k
 use Rattle.haskell_layout.specs.declared.role.Role.{Role}
 use Rattle.haskell_layout.specs.declared.role.Role.TheVariants as r
 use Rattle.haskell_layout.specs.Role.{role_of, makes_due, is_open_brace}

@@ -1,6 +1,6 @@
 -- Layout: a function of the tokens of a source and of its length.
 use Rattle.std.specs.Prelude.{ℕ, ◌+◌, Bool, true, false, List, [], ◌∷◌, ◌++◌, map, Option, Some, None, Result, Ok, Err, if◌then◌else◌}
-use Rattle.hs_syntax.specs.declared.token.Token.{Token}
+use Rattle.hs_tokens.specs.declared.token.Token.{Token}
 use Rattle.haskell_layout.specs.declared.role.Role.{Role}
 use Rattle.haskell_layout.specs.declared.role.Made.{Made}
 use Rattle.haskell_layout.specs.declared.role.Made.TheVariants as m

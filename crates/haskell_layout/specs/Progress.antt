@@ -1,6 +1,6 @@
 -- A layout on its way: what a rule makes of it.
 use Rattle.std.specs.Prelude.{◌≡◌, ℕ, List, [], ◌∷◌, ◌++◌, Option, None, Err}
-use Rattle.hs_syntax.specs.declared.token.Token.{Token}
+use Rattle.hs_tokens.specs.declared.token.Token.{Token}
 use Rattle.haskell_layout.specs.declared.stack.Item.{Item}
 use Rattle.haskell_layout.specs.declared.progress.Progress.{Progress}
 use Rattle.haskell_layout.specs.declared.error.LayoutError.{LayoutError}

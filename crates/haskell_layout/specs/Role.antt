@@ -1,8 +1,8 @@
 -- What a token is to layout, and the tokens that layout makes.
 use Rattle.std.specs.Prelude.{ℕ, Bool, true, false, List, codes, bytes_eq, if◌then◌else◌}
-use Rattle.hs_syntax.specs.declared.token.Token.{Token}
-use Rattle.hs_syntax.specs.declared.token.TokenKind.{TokenKind}
-use Rattle.hs_syntax.specs.declared.token.TokenKind.TheVariants as k
+use Rattle.hs_tokens.specs.declared.token.Token.{Token}
+use Rattle.hs_tokens.specs.declared.token.TokenKind.{TokenKind}
+use Rattle.hs_tokens.specs.declared.token.TokenKind.TheVariants as k
 use Rattle.haskell_layout.specs.declared.role.Role.{Role}
 use Rattle.haskell_layout.specs.declared.role.Role.TheVariants as r
 use Rattle.haskell_layout.specs.declared.role.Made.{Made}

@@ -11,6 +11,3 @@ mod stack;
 pub use error::LayoutError;
 pub use laws::{braces_match, braces_stay, given_tokens_stand};
 pub use pass::layout;
-
-#[cfg(test)]
-mod tests;

@@ -7,7 +7,7 @@ use crate::error::LayoutError;
 use crate::progress::Progress;
 use crate::role::{Role, role_of};
 use crate::stack::Stack;
-use hs_syntax::{Token, Tokens};
+use hs_tokens::{Token, Tokens};
 use sqlite_items::Items;
 use std::alloc::Global;
 

@@ -8,7 +8,7 @@ ghost use Rattle.haskell_layout.specs.Progress.{state_of, advanced, emitted, top
 use crate::error::LayoutError;
 use crate::role::{Made, Role, begins_item, made_token, makes_due, role_of};
 use crate::stack::{Item, Sought, Stack, Until};
-use hs_syntax::{Token, Tokens};
+use hs_tokens::{Token, Tokens};
 use sqlite_items::Items;
 use std::alloc::{AllocError, Global};
 

@@ -3,7 +3,7 @@ ghost use Rattle.std.specs.Prelude.{◌≡◌, IfOk};
 ghost use Rattle.haskell_layout.specs.Role.{role_of, special_role, reserved_role, name_role, made_token, makes_due, begins_item};
 
 use bp_base::Bytes;
-use hs_syntax::{Token, TokenKind};
+use hs_tokens::{Token, TokenKind};
 use std::alloc::{AllocError, Global};
 
 /// What a token is to layout.

@@ -9,7 +9,7 @@ ghost use Rattle.hs_trees.specs.declared.error.ParseError.TheVariants.{NoMemory}
 
 use crate::kinds::read_kind;
 use crate::limit::MAX_DEPTH;
-use hs_syntax::Tokens;
+use hs_tokens::Tokens;
 use hs_trees::{Fault, KindTree, ParseError, Terminal, terminals_of};
 use std::alloc::Global;
 

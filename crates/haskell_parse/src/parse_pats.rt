@@ -12,7 +12,7 @@ ghost use Rattle.hs_trees.specs.declared.error.ParseError.TheVariants.{NoMemory}
 
 use crate::limit::MAX_DEPTH;
 use crate::patterns::read_pat;
-use hs_syntax::Tokens;
+use hs_tokens::Tokens;
 use hs_trees::{Fault, ParseError, PatTree, Terminal, terminals_of};
 use std::alloc::Global;
 

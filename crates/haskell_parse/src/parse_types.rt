@@ -9,7 +9,7 @@ ghost use Rattle.hs_trees.specs.declared.error.ParseError.TheVariants.{NoMemory}
 
 use crate::limit::MAX_DEPTH;
 use crate::types::read_type;
-use hs_syntax::Tokens;
+use hs_tokens::Tokens;
 use hs_trees::{Fault, ParseError, Terminal, TypeTree, terminals_of};
 use std::alloc::Global;
 

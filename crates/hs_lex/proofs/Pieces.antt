@@ -4,7 +4,7 @@ use Rattle.std.specs.Prelude.{◌==◌, option_map}
 use Rattle.std.specs.List.{prefix_len}
 use Rattle.std.proofs.lemmas.Bool.Decides.{nat_tests}
 use Rattle.std.proofs.lemmas.List.{take-append-drop}
-use Rattle.hs_syntax.specs.declared.token.TokenKind.TheVariants as t
+use Rattle.hs_tokens.specs.declared.token.TokenKind.TheVariants as t
 use Rattle.hs_lex.specs.declared.class.Class.TheVariants as c
 use Rattle.hs_lex.specs.declared.class.Start.{Start}
 use Rattle.hs_lex.specs.declared.class.Start.TheVariants as s

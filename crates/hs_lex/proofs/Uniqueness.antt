@@ -2,7 +2,7 @@
 use Rattle.std.proofs.Common.{◌≡◌, ℕ, ◌<◌, ◌⊎◌, inl, inr, Bool, true, false, List, [], ◌∷◌, length, take, drop, refl, sym, ap, ◌∙◌, subst, arith, true≢false, Option, Some, None, Result, Ok, Err}
 use Rattle.std.specs.Prelude.{nat_lt}
 use Rattle.std.proofs.lemmas.Bool.Decides.{nat_tests}
-use Rattle.hs_syntax.specs.declared.token.Token.{Token}
+use Rattle.hs_tokens.specs.declared.token.Token.{Token}
 use Rattle.hs_lex.specs.declared.kind.Kind.{Kind}
 use Rattle.hs_lex.specs.declared.kind.Kind.TheVariants as k
 use Rattle.hs_lex.specs.declared.reader.LexError.{LexError}

@@ -2,7 +2,7 @@
 use Rattle.std.specs.Prelude.{ℕ, zero, suc, Bool, true, false, not, ◌&&◌, ◌==◌, List, [], ◌∷◌, ◌++◌, length, drop, Option, Some, None, option_map, if◌then◌else◌}
 use Rattle.std.specs.List.{prefix_len}
 use Rattle.std.specs.Str.{is_utf8}
-use Rattle.hs_syntax.specs.declared.token.TokenKind.TheVariants as t
+use Rattle.hs_tokens.specs.declared.token.TokenKind.TheVariants as t
 use Rattle.hs_lex.specs.declared.class.Class.TheVariants as c
 use Rattle.hs_lex.specs.declared.class.Start.{Start}
 use Rattle.hs_lex.specs.declared.class.Start.TheVariants as s

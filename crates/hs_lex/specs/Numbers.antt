@@ -1,7 +1,7 @@
 -- Numbers (Haskell 2010 Report, section 2.5).
 use Rattle.std.specs.Prelude.{ℕ, ◌+◌, ◌-◌, ◌*◌, Bool, true, false, not, ◌&&◌, ◌||◌, ◌==◌, nat_le, List, [], ◌∷◌, drop, Option, Some, None, if◌then◌else◌}
 use Rattle.std.specs.List.{fold}
-use Rattle.hs_syntax.specs.declared.token.TokenKind.TheVariants as t
+use Rattle.hs_tokens.specs.declared.token.TokenKind.TheVariants as t
 use Rattle.hs_lex.specs.declared.class.Class.TheVariants as c
 use Rattle.hs_lex.specs.declared.kind.Kind.{Kind}
 use Rattle.hs_lex.specs.declared.kind.Kind.TheVariants as k

@@ -1,6 +1,6 @@
 -- What the readers of qualified names find.
 use Rattle.std.specs.Prelude.{◌≡◌, ℕ, ◌+◌, ◌<◌, ◌≤◌, false, List, ◌∷◌, length, drop, Option, Some, None}
-use Rattle.hs_syntax.specs.declared.token.TokenKind.TheVariants as t
+use Rattle.hs_tokens.specs.declared.token.TokenKind.TheVariants as t
 use Rattle.hs_lex.specs.declared.class.Class.TheVariants as c
 use Rattle.hs_lex.specs.declared.class.Start.{Start}
 use Rattle.hs_lex.specs.declared.kind.Kind.{Kind}

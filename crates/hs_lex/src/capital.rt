@@ -10,7 +10,7 @@ use crate::class::{Class, Start, count, opening};
 use crate::kind::{Kind, Part};
 use crate::literal::behind;
 use crate::name::{kind_of_operator, plain_symbol, plain_word};
-use hs_syntax::TokenKind;
+use hs_tokens::TokenKind;
 
 /// So many bytes at the front.
 pub fn front(len: usize, bytes: &[u8]) -> &[u8]

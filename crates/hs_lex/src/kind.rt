@@ -1,5 +1,5 @@
 //! What the pieces of a source are.
-use hs_syntax::TokenKind;
+use hs_tokens::TokenKind;
 
 /// What a piece of the source is.
 #[derive(Clone, Copy, Debug, PartialEq, Eq)]

@@ -14,6 +14,3 @@ mod reader;
 pub use class::{Class, Start};
 pub use kind::{Form, Kind, Part};
 pub use reader::{LexError, lex, one_answer, one_cover};
-
-#[cfg(test)]
-mod tests;

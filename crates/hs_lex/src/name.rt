@@ -5,7 +5,7 @@ ghost use Rattle.hs_lex.specs.Words.{is_left_out, is_declaring, is_expressing, i
 
 use crate::class::{Class, count};
 use crate::kind::Kind;
-use hs_syntax::TokenKind;
+use hs_tokens::TokenKind;
 
 /// Whether the text is the word.
 fn is(text: &[u8], word: &[u8]) -> bool

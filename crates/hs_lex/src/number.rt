@@ -9,7 +9,7 @@ ghost use Rattle.hs_lex.specs.declared.kind.Form.TheVariants.{Floating};
 
 use crate::class::{Class, count};
 use crate::kind::{Form, Kind};
-use hs_syntax::TokenKind;
+use hs_tokens::TokenKind;
 
 /// The greatest integer of a source.
 const GREATEST: u64 = 9223372036854775807;

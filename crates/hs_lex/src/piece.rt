@@ -13,7 +13,7 @@ use crate::kind::Kind;
 use crate::literal::{character_literal, string};
 use crate::name::{kind_of_symbol, kind_of_word};
 use crate::number::{kind_of_number, number_len};
-use hs_syntax::TokenKind;
+use hs_tokens::TokenKind;
 
 /// A word: its kind, and how many bytes it has behind its first one.
 fn word(text: &[u8], first: u8, rest: &[u8]) -> (Kind, usize)

@@ -9,7 +9,7 @@ use crate::kind::Kind;
 use crate::literal::behind;
 use crate::piece::piece;
 use bp_base::Bytes;
-use hs_syntax::{Token, Tokens};
+use hs_tokens::{Token, Tokens};
 use std::alloc::{AllocError, Global};
 
 /// Why a source has no tokens.

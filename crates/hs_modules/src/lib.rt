@@ -30,6 +30,3 @@ pub use parts::{
     depth_of_decl, depth_of_kind, depth_of_pat, depth_of_type, size_of_decl, size_of_kind,
     size_of_pat, size_of_type,
 };
-
-#[cfg(test)]
-mod tests;

@@ -7,6 +7,3 @@ mod print;
 
 pub use plain::{Atom, Atoms, Binding, Bindings, PlainModule};
 pub use print::print_module;
-
-#[cfg(test)]
-mod tests;

@@ -1,9 +1,9 @@
 -- What the grammar sees of a token (Haskell 2010 Report, sections 2.4 and 10.2).
 use Rattle.std.specs.Prelude.{ℕ, Bool, true, false, ◌&&◌, nat_le, List, [], ◌∷◌, codes}
 use Rattle.std.specs.Str.{bytes_eq}
-use Rattle.hs_syntax.specs.declared.token.Token.{Token}
-use Rattle.hs_syntax.specs.declared.token.TokenKind.{TokenKind}
-use Rattle.hs_syntax.specs.declared.token.TokenKind.TheVariants as k
+use Rattle.hs_tokens.specs.declared.token.Token.{Token}
+use Rattle.hs_tokens.specs.declared.token.TokenKind.{TokenKind}
+use Rattle.hs_tokens.specs.declared.token.TokenKind.TheVariants as k
 use Rattle.hs_trees.specs.declared.terminal.Terminal.{Terminal}
 use Rattle.hs_trees.specs.declared.terminal.Terminal.TheVariants as t
 

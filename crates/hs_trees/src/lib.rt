@@ -14,6 +14,3 @@ pub use patterns::{
 };
 pub use terminal::{Terminal, Terminals, terminal_of, terminals_of};
 pub use types::{AKindTree, ATypeTree, BTypeTree, KindTree, TypeTree};
-
-#[cfg(test)]
-mod tests;

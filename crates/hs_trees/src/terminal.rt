@@ -3,7 +3,7 @@ ghost use Rattle.std.specs.Prelude.{◌≡◌, IfOk, map};
 ghost use Rattle.hs_trees.specs.Terminals.{terminal_of, special_of, symbol_of, is_qualified};
 
 use bp_base::Bytes;
-use hs_syntax::{Token, TokenKind, Tokens};
+use hs_tokens::{Token, TokenKind, Tokens};
 use sqlite_items::Items;
 use std::alloc::{AllocError, Global};
 

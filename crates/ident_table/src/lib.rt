@@ -4,8 +4,6 @@
 
 mod node;
 mod table;
-#[cfg(test)]
-mod tests;
 
 pub use node::{IdentNode, NumberFill, NumberFills};
 pub use table::IdentTable;

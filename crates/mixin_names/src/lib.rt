@@ -8,6 +8,3 @@ mod requirement;
 pub use error::NameError;
 pub use provision::provides;
 pub use requirement::needs;
-
-#[cfg(test)]
-mod tests;

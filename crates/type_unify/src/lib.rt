@@ -15,6 +15,3 @@ mod walk;
 pub use bindings::{Bindings, unify};
 pub use solve::UnifyError;
 pub use term::{Node, Term};
-
-#[cfg(test)]
-mod tests;

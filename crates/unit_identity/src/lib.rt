@@ -10,6 +10,3 @@ pub use filling::{compose, fill, fill_unit, filler, filling_composes};
 pub use reader::{IdentError, read_ident};
 pub use text::{ident_text, one_spelling};
 pub use well_formed::{is_well_formed, is_well_formed_unit};
-
-#[cfg(test)]
-mod tests;

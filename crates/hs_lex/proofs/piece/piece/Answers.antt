@@ -1,7 +1,7 @@
 use Rattle.std.proofs.Common.{refl}
 use Rattle.hs_lex.specs.declared.class.Start.TheVariants as s
 use Rattle.hs_lex.specs.declared.kind.Kind.TheVariants as k
-use Rattle.hs_syntax.specs.declared.token.TokenKind.TheVariants as t
+use Rattle.hs_tokens.specs.declared.token.TokenKind.TheVariants as t
 use Rattle.hs_lex.proofs.Pieces.{at_start, alone_stands}
 use Rattle.hs_lex.proofs.piece.piece.Goals as goal
 

@@ -1,0 +1,5 @@
+//! Worked values of `bp_edges`.
+#![tactic(auto)]
+
+#[cfg(test)]
+mod tests;

@@ -1,0 +1,5 @@
+//! Worked values of `haskell_layout`.
+#![tactic(auto)]
+
+#[cfg(test)]
+mod tests;

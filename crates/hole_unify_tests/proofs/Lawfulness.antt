@@ -1,0 +1,121 @@
+-- The test of the condition on units is sound.
+use Rattle.std.proofs.Common.{◌≡◌, ℕ, suc, ◌+◌, ◌<◌, Bool, true, false, ◌&&◌, ◌||◌, not, List, [], ◌∷◌, ◌++◌, length, get_or, drop, map, inl, inr, refl, ap, sym, ◌∙◌, subst, append_assoc, arith}
+use Rattle.std.specs.Prelude.{IsTrue}
+use Rattle.std.specs.Str.{bytes_eq}
+use Rattle.std.specs.Ordering.{nat_cmp}
+use Rattle.std.specs.Cmp.Lexicographic.{slice_cmp}
+use Rattle.std.specs.declared.cmp.Ordering.{Ordering}
+use Rattle.std.specs.declared.cmp.Ordering.TheVariants.{Less, Equal, Greater}
+use Rattle.std.proofs.Math.Seq.{drop-cons}
+use Rattle.bp_base.specs.declared.ident.Ident.{Ident}
+use Rattle.bp_base.specs.declared.ident.Ident.TheVariants.{Module}
+use Rattle.bp_base.specs.declared.ident.Unit.{Unit as OfUnit, Unit', out-Unit}
+use Rattle.bp_base.specs.declared.ident.Fill.{Fill}
+use Rattle.bp_base.specs.declared.ident.Ident.TheBlock.{hidden-the_row-Unit-0, shown-the_row-Fill-1, Row_of-Fill, end_of-Fill, more_of-Fill}
+use Rattle.bp_base.specs.Lists.{Among}
+use Rattle.bp_base.specs.Texts.{Text, Before, Rise, RiseAfter}
+use Rattle.bp_base.proofs.Texts.{same_texts, texts_same}
+use Rattle.hole_unify.specs.declared.equation.Equation.{Equation}
+use Rattle.hole_unify.specs.Causes.{IsLawful, units_of, units_below, units_of_row, units_in, holes_of}
+use Rattle.hole_unify_tests.specs.Lawful.{units_in_fills, is_less, same_holes, rise_after, rises, agree, agrees_with, all_agree}
+use mathlib.Core.Former.{list_count, this, none_left}
+use denote.Hole.Carrier.{hidden, out, shown}
+
+-- ---- listing
+
+pub units_of-Module : (u : OfUnit) (m : Text) → units_of (Module u m) ≡ u ∷ units_below u
+unfolding hidden-the_row-Unit-0 hidden
+units_of-Module u m = refl
+
+units-row : (c : Text) (s : List (Unit {0})) (r : Row_of-Fill (list_count this s none_left)) → units_of_row r ≡ units_in_fills (out-Unit (Unit' c s r)).fills
+unfolding out-Unit out shown-the_row-Fill-1 shown
+units-row c [] end_of-Fill = refl
+units-row c (x ∷ s) (more_of-Fill h i r) = ap (λ l. units_of i ++ l) (units-row c s r)
+
+pub units_below-out : (u : OfUnit) → units_below u ≡ units_in_fills (out-Unit u).fills
+units_below-out (Unit' c s r) = units-row c s r
+
+pub ruleset unit_equations = (units_of-Module, units_below-out)
+
+front_of : {A : Type 0} (xs : List A) (i : ℕ) (x : A) → i < length xs → x ≡ get_or xs i x → drop i xs ≡ x ∷ drop (i + 1) xs
+front_of xs i x lt is =
+    let one : suc i ≡ i + 1 = omega arith in
+    drop-cons xs i x lt ∙ (λ w. sym is w ∷ drop (one w) xs)
+
+pub fills-step : (fills : List Fill) (i : ℕ) (x : Fill) (now new t : List OfUnit) → i < length fills → x ≡ get_or fills i x
+    → new ≡ now ++ units_of x.ident → now ++ units_in_fills (drop i fills) ≡ t → new ++ units_in_fills (drop (i + 1) fills) ≡ t
+fills-step fills i x now new t lt is made so =
+    ap (λ l. l ++ units_in_fills (drop (i + 1) fills)) made
+    ∙ append_assoc now (units_of x.ident) (units_in_fills (drop (i + 1) fills))
+    ∙ ap (λ l. now ++ units_in_fills l) (sym (front_of fills i x lt is)) ∙ so
+
+pub equations-step : (es : List Equation) (i : ℕ) (x : Equation) (now mid new t : List OfUnit) → i < length es → x ≡ get_or es i x
+    → mid ≡ now ++ units_of x.left → new ≡ mid ++ units_of x.right → now ++ units_in (drop i es) ≡ t → new ++ units_in (drop (i + 1) es) ≡ t
+equations-step es i x now mid new t lt is left right so =
+    ap (λ l. l ++ units_in (drop (i + 1) es)) right
+    ∙ append_assoc mid (units_of x.right) (units_in (drop (i + 1) es))
+    ∙ ap (λ l. l ++ (units_of x.right ++ units_in (drop (i + 1) es))) left
+    ∙ append_assoc now (units_of x.left) (units_of x.right ++ units_in (drop (i + 1) es))
+    ∙ ap (λ l. now ++ units_in l) (sym (front_of es i x lt is)) ∙ so
+
+pub ident-step : (a : Ident) (u copy : OfUnit) (m : Text) (fs : List Fill) (now pushed new : List OfUnit) → a ≡ Module u m → copy ≡ u
+    → pushed ≡ now ++ copy ∷ [] → fs ≡ (out-Unit u).fills → new ≡ pushed ++ units_in_fills fs → new ≡ now ++ units_of a
+ident-step a u copy m fs now pushed new is same pushes fills made =
+    made ∙ (λ w. pushes w ++ units_in_fills (fills w))
+    ∙ append_assoc now (copy ∷ []) (units_in_fills (out-Unit u).fills)
+    ∙ (λ w. now ++ (same w ∷ sym (units_below-out u) w))
+    ∙ ap (λ l. now ++ l) (sym (units_of-Module u m)) ∙ ap (λ i. now ++ units_of i) (sym is)
+
+-- ---- the test
+
+both : (a b : Bool) → a && b ≡ true → (a ≡ true) × (b ≡ true)
+both true b e = (refl, e)
+both false b e = cc
+
+earlier : (m n : Text) → is_less (slice_cmp nat_cmp m n) ≡ true → Before m n
+earlier m n e = by (slice_cmp nat_cmp m n) refl
+  where
+    by : (o : Ordering) → slice_cmp nat_cmp m n ≡ o → Before m n
+    by Less p = p
+    by Equal p = let f : false ≡ true = sym (ap is_less p) ∙ e in cc
+    by Greater p = let f : false ≡ true = sym (ap is_less p) ∙ e in cc
+
+same-holes : (us vs : List Fill) → same_holes us vs ≡ true → map (λ x. x.hole) us ≡ map (λ x. x.hole) vs
+same-holes [] [] e = refl
+same-holes [] (y ∷ ys) e = cc
+same-holes (x ∷ xs) [] e = cc
+same-holes (x ∷ xs) (y ∷ ys) e = let p = both _ _ e in let h = same_texts x.hole y.hole p.0 in let r = same-holes xs ys p.1 in λ w. h w ∷ r w
+
+rises-after : (h : Text) (fs : List Fill) → rise_after h fs ≡ true → RiseAfter h (map (λ x. x.hole) fs)
+rises-after h [] e = tt
+rises-after h (x ∷ xs) e = let p = both _ _ e in (earlier h x.hole p.0, rises-after x.hole xs p.1)
+
+rises-all : (fs : List Fill) → rises fs ≡ true → Rise (map (λ x. x.hole) fs)
+rises-all [] e = tt
+rises-all (x ∷ xs) e = rises-after x.hole xs e
+
+units-agree : (u v : OfUnit) → agree u v ≡ true → (out-Unit u).component ≡ (out-Unit v).component → holes_of u ≡ holes_of v
+units-agree u v e c =
+    let same : bytes_eq (out-Unit u).component (out-Unit v).component ≡ true = ap (λ z. bytes_eq z (out-Unit v).component) c ∙ texts_same (out-Unit v).component in
+    same-holes (out-Unit u).fills (out-Unit v).fills (ap (λ b. not b || same_holes (out-Unit u).fills (out-Unit v).fills) (sym same) ∙ e)
+
+agree-one : (u : OfUnit) (rest : List OfUnit) → agrees_with u rest ≡ true → (v : OfUnit) → Among v rest → agree u v ≡ true
+agree-one u [] e v h = absurd h
+agree-one u (y ∷ rest) e v (inl is) = subst (λ z. agree u z ≡ true) is (both _ _ e).0
+agree-one u (y ∷ rest) e v (inr h) = agree-one u rest (both _ _ e).1 v h
+
+agree-all : (units rest : List OfUnit) → all_agree units rest ≡ true → (u : OfUnit) → Among u rest → (rises (out-Unit u).fills ≡ true) × (agrees_with u units ≡ true)
+agree-all units [] e u h = absurd h
+agree-all units (y ∷ rest) e u (inl is) = let p = both _ _ (both _ _ e).0 in subst (λ z. (rises (out-Unit z).fills ≡ true) × (agrees_with z units ≡ true)) is (p.0, p.1)
+agree-all units (y ∷ rest) e u (inr h) = agree-all units rest (both _ _ e).1 u h
+
+lawful-met : (es : List Equation) → all_agree (units_in es) (units_in es) ≡ true → IsLawful es
+lawful-met es e = record {
+  same_holes = λ u v h g c. units-agree u v (agree-one u (units_in es) (agree-all (units_in es) (units_in es) e u h).1 v g) c;
+  rising = λ u h. rises-all (out-Unit u).fills (agree-all (units_in es) (units_in es) e u h).0;
+}
+
+pub lawful-found : (es given : List Equation) (units shown : List OfUnit) (r : Bool) → given ≡ es → units ≡ units_in given → shown ≡ units → r ≡ all_agree shown shown → IsTrue r → IsLawful es
+lawful-found es given units shown r is made same tested true_is =
+    let all : shown ≡ units_in es = same ∙ made ∙ ap units_in is in
+    lawful-met es ((λ w. all_agree (sym all w) (sym all w)) ∙ sym tested ∙ true_is)

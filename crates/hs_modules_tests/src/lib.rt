@@ -1,0 +1,5 @@
+//! Worked values of `hs_modules`.
+#![tactic(auto)]
+
+#[cfg(test)]
+mod tests;

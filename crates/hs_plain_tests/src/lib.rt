@@ -1,0 +1,5 @@
+//! Worked values of `hs_plain`.
+#![tactic(auto)]
+
+#[cfg(test)]
+mod tests;

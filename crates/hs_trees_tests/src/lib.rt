@@ -1,0 +1,5 @@
+//! Worked values of `hs_trees`.
+#![tactic(auto)]
+
+#[cfg(test)]
+mod tests;

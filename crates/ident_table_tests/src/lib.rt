@@ -1,0 +1,5 @@
+//! Worked values of `ident_table`.
+#![tactic(auto)]
+
+#[cfg(test)]
+mod tests;

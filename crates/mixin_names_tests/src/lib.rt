@@ -1,0 +1,5 @@
+//! Worked values of `mixin_names`.
+#![tactic(auto)]
+
+#[cfg(test)]
+mod tests;

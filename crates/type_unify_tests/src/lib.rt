@@ -1,0 +1,5 @@
+//! Worked values of `type_unify`.
+#![tactic(auto)]
+
+#[cfg(test)]
+mod tests;

@@ -1,0 +1,5 @@
+//! Worked values of `unit_identity`.
+#![tactic(auto)]
+
+#[cfg(test)]
+mod tests;
