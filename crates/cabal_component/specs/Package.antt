@@ -14,7 +14,7 @@ use Rattle.cabal_component.specs.declared.package.Listing.{Listing}
 use Rattle.cabal_stanzas.specs.Folder.{folders_of}
 use Rattle.cabal_stanzas.specs.Project.{shallow_lines}
 use Rattle.cabal_stanzas.specs.Stanzas.{fields_at, odd_lines, indent_in, repeated}
-use Rattle.cabal_stanzas.specs.Heads.{refused_names, head_of}
+use Rattle.cabal_stanzas.specs.Heads.{refused_names, head_words, head_of}
 use Rattle.cabal_stanzas.specs.Values.{ranged_names, source_name}
 use Rattle.cabal_component.specs.Entries.{mixins_of}
 
@@ -119,7 +119,7 @@ stanza_refused Other l deeper = l.number ∷ []
 -- the refused lines of a block of indent 0
 abbrev pub block_refused : Block → List ℕ
 block_refused block =
-    if is_some (field_of block.line.text) then [] else stanza_refused (head_of (tokens_of block.line.text)) block.line block.deeper
+    if is_some (field_of block.line.text) then [] else stanza_refused (head_of (head_words block.line.text)) block.line block.deeper
 
 -- the refused lines of a package file
 abbrev pub package_refused : List Line → List ℕ

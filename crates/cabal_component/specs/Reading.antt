@@ -19,14 +19,14 @@ use Rattle.cabal_component.specs.declared.reading.ComponentError.TheVariants.{Co
 use Rattle.cabal_stanzas.specs.declared.stanzas.Field.{Field}
 use Rattle.cabal_stanzas.specs.Folder.{folders_of}
 use Rattle.cabal_stanzas.specs.Stanzas.{fields_at, indent_in, value_named}
-use Rattle.cabal_stanzas.specs.Heads.{head_of, named, package_of, library_name, component_name}
+use Rattle.cabal_stanzas.specs.Heads.{head_words, head_of, named, package_of, library_name, component_name}
 use Rattle.cabal_stanzas.specs.Values.{ranged_names, source_name}
 use Rattle.cabal_component.specs.Entries.{mixins_of}
 use Rattle.cabal_component.specs.Package.{or_none}
 
 -- the words of a head; of a field nothing
-abbrev pub head_words : Line → List (List ℕ)
-head_words l = if is_some (field_of l.text) then [] else tokens_of l.text
+abbrev pub words_at : Line → List (List ℕ)
+words_at l = if is_some (field_of l.text) then [] else head_words l.text
 
 -- the name of a library that is no main library
 abbrev pub part_if : Head → List ℕ → Option (List ℕ)
@@ -37,7 +37,7 @@ part_if Ignored name = None
 part_if Other name = None
 
 abbrev pub part_at : Line → Option (List ℕ)
-part_at l = if l.indent == 0 then part_if (head_of (head_words l)) (named (head_words l)) else None
+part_at l = if l.indent == 0 then part_if (head_of (words_at l)) (named (words_at l)) else None
 
 -- the libraries of a package that have names of their own
 abbrev pub own_libraries : List Line → List (List ℕ)
@@ -132,7 +132,7 @@ component_if file owner own Other name fs = None
 
 abbrev pub component_in : List ℕ → List ℕ → (List ℕ → Bool) → Block → Option Component
 component_in file owner own block =
-    component_if file owner own (head_of (head_words block.line)) (named (head_words block.line)) (fields_at (indent_in block.deeper) block.deeper)
+    component_if file owner own (head_of (words_at block.line)) (named (words_at block.line)) (fields_at (indent_in block.deeper) block.deeper)
 
 abbrev pub components_in : List ℕ → List ℕ → (List ℕ → Bool) → List Line → List Component
 components_in file owner own ls = filter_map (component_in file owner own) (blocks 0 ls)

@@ -13,7 +13,7 @@ ghost use Rattle.cabal_component.specs.Package.{or_none, is_bad_shared, is_bad_l
 use crate::entries::mixins_of;
 use bp_base::{Name, Names};
 use cabal_stanzas::folder::folders_of;
-use cabal_stanzas::heads::{Head, head_of, name_line};
+use cabal_stanzas::heads::{Head, head_of, head_words, name_line};
 use cabal_stanzas::stanzas::{Field, fields_at, indent_in, odd_line, repeated_line};
 use cabal_stanzas::values::{ranged_names, source_name};
 use cabal_text::fields::{field_of, is_word};
@@ -368,7 +368,7 @@ fn block_line(alloc: Global, line: &Line, deeper: &[Line]) -> Result<Option<u64>
     if field_of(line.text.as_bytes()).is_some() {
         return Ok(None);
     }
-    let words = tokens_of(alloc, line.text.as_bytes())?;
+    let words = head_words(alloc, line.text.as_bytes())?;
     stanza_line(alloc, head_of(&words), line, deeper)
 }
 

@@ -4,7 +4,7 @@ ghost use Rattle.std.specs.HashSet.{contains};
 ghost use Rattle.std.specs.Str.{bytes_eq};
 ghost use Rattle.cabal_text.specs.Lines.{Block, kept_lines};
 ghost use Rattle.cabal_component.specs.Package.{or_none, package_refused};
-ghost use Rattle.cabal_component.specs.Reading.{head_words, part_if, part_at, own_libraries, resolved, resolved_mixin, mixins_in, listed_in, deps_of, or_here, folders_in, names_named, renames_in, main_in, library_with, executable_with, component_in, components_in, components_of, NamesLeast};
+ghost use Rattle.cabal_component.specs.Reading.{words_at, part_if, part_at, own_libraries, resolved, resolved_mixin, mixins_in, listed_in, deps_of, or_here, folders_in, names_named, renames_in, main_in, library_with, executable_with, component_in, components_in, components_of, NamesLeast};
 ghost use Rattle.cabal_component.specs.declared.reading.ComponentError.TheVariants.{ComponentSyntax, NoMemory};
 
 use crate::component::{Component, Components, Mixin, Mixins};
@@ -12,7 +12,9 @@ use crate::entries::mixins_of;
 use crate::package::{names_in, refused_line};
 use bp_base::{Bytes, Name, Names, Path, Renames};
 use cabal_stanzas::folder::{Paths, folders_of};
-use cabal_stanzas::heads::{Head, component_name, head_of, library_name, named, package_of};
+use cabal_stanzas::heads::{
+    Head, component_name, head_of, head_words, library_name, named, package_of,
+};
 use cabal_stanzas::stanzas::{Field, fields_at, indent_in, value_named};
 use cabal_stanzas::values::{ranged_names, source_name};
 use cabal_text::fields::field_of;
@@ -41,13 +43,13 @@ impl From<AllocError> for ComponentError {
 }
 
 /// The words of a head; of a field nothing.
-fn head_words(alloc: Global, line: &Line) -> Result<Vec<Bytes>, AllocError>
-    ensures { IfOk result (λ words. words.items ≡ head_words line.now) }
+fn words_at(alloc: Global, line: &Line) -> Result<Vec<Bytes>, AllocError>
+    ensures { IfOk result (λ words. words.items ≡ words_at line.now) }
 {
     if field_of(line.text.as_bytes()).is_some() {
         return Ok(Vec::new(alloc));
     }
-    tokens_of(alloc, line.text.as_bytes())
+    head_words(alloc, line.text.as_bytes())
 }
 
 /// The name of a library that is no main library.
@@ -73,7 +75,7 @@ fn part_at(alloc: Global, line: &Line) -> Result<Option<Name>, AllocError>
     if line.indent > 0 {
         return Ok(None);
     }
-    let words = head_words(alloc, line)?;
+    let words = words_at(alloc, line)?;
     part_if(alloc, head_of(&words), named(&words))
 }
 
@@ -318,7 +320,7 @@ fn component_in(
 ) -> Result<Option<Component>, AllocError>
     ensures { IfOk result (λ found. found ≡ component_in file.now owner.now (contains bytes_eq own.now) (record { line = line.now; deeper = deeper.now })) }
 {
-    let words = head_words(alloc, line)?;
+    let words = words_at(alloc, line)?;
     let fields = fields_at(alloc, indent_in(deeper), deeper)?;
     match head_of(&words) {
         Head::Library => {

@@ -2,3 +2,4 @@ pub mod Apart
 pub mod Names
 pub mod Mixed
 pub mod Whole
+pub mod Tested

@@ -6,7 +6,6 @@ use Rattle.bp_base.specs.Texts.{Text}
 use Rattle.cabal_text.specs.declared.lines.Line.{Line}
 use Rattle.cabal_text.specs.Lines.{Block, blocks, deeper_than}
 use Rattle.cabal_text.specs.Fields.{field_of, is_word}
-use Rattle.cabal_text.specs.Tokens.{tokens_of}
 use Rattle.bp_base.specs.Lists.{is_among}
 use Rattle.cabal_stanzas.specs.declared.stanzas.Field.{Field}
 use Rattle.cabal_component.specs.declared.component.Component.{Component}
@@ -14,7 +13,7 @@ use Rattle.cabal_component.specs.declared.component.Mixin.{Mixin}
 use Rattle.cabal_stanzas.specs.declared.heads.Head.{Head}
 use Rattle.cabal_stanzas.specs.declared.heads.Head.TheVariants.{Library, Executable, Common, Ignored, Other}
 use Rattle.cabal_stanzas.specs.Stanzas.{fields_at, indent_in, odd_lines, repeated, value_named}
-use Rattle.cabal_stanzas.specs.Heads.{refused_names, head_of, named, package_of, component_name}
+use Rattle.cabal_stanzas.specs.Heads.{refused_names, head_words, head_of, named, package_of, component_name}
 use Rattle.cabal_stanzas.specs.Values.{source_name}
 use Rattle.cabal_component.specs.Package.{is_bad_shared, is_bad_executable, is_bad, placed, twice_lines, main_refused, stanza_refused, block_refused, package_refused}
 use Rattle.cabal_component.specs.Reading.{is_own, listed_in, mixins_in, deps_in, names_named, library_with, executable_with, component_if, component_in, components_of}
@@ -154,7 +153,7 @@ block_step file owner own words l deeper c true r e = absurd (cc)
 block_step file owner own words l deeper c false r e = head_step file owner own (head_of words) (named words) l deeper c r e
 
 block_ok : (file owner : Text) (own : Text → Bool) (b : Block) (c : Component) → block_refused b ≡ [] → component_in file owner own b ≡ Some c → IsLawful c
-block_ok file owner own b c r e = block_step file owner own (tokens_of b.line.text) b.line b.deeper c (is_some (field_of b.line.text)) r e
+block_ok file owner own b c r e = block_step file owner own (head_words b.line.text) b.line b.deeper c (is_some (field_of b.line.text)) r e
 
 some_step : {X : Type 0} (P : X → Type 0) (o : Option X) (xs : List X) → ((x : X) → o ≡ Some x → P x) → AllByRecursion P xs → AllByRecursion P (cons_option o xs)
 some_step P None xs f h = h

@@ -38,9 +38,9 @@ is_foreign item = list_any is_glob_char item || climbs item || is_address item
 unfoldable pub is_here : List ℕ → Bool
 is_here path = (length path == 0) || pointwise ◌==◌ path (codes ".")
 
--- the item names no package file
+-- the item names no package file: it is foreign, or begins with `/` once a leading `./` is dropped, or is the folder itself
 unfoldable pub is_refused_item : List ℕ → Bool
-is_refused_item item = is_foreign item || starts_with ◌==◌ item (codes "/") || is_here (trimmed item)
+is_refused_item item = is_foreign item || starts_with ◌==◌ (without_front item) (codes "/") || is_here (trimmed item)
 
 -- what stands behind the last slash of the rest, or else this
 abbrev pub behind_slash : List ℕ → List ℕ → List ℕ

@@ -1,8 +1,8 @@
 -- The package's name, and the heads of stanzas (Cabal manual, "package properties", "library", "executables").
-use Rattle.std.specs.Prelude.{ℕ, Bool, false, List, [], ◌∷◌, ◌++◌, codes, ◌||◌, if◌then◌else◌}
+use Rattle.std.specs.Prelude.{ℕ, Bool, false, List, [], ◌∷◌, ◌++◌, length, drop, codes, ◌||◌, if◌then◌else◌}
 use Rattle.cabal_text.specs.Tokens.{tokens_of}
 use Rattle.bp_base.specs.Names.{is_package_name}
-use Rattle.cabal_text.specs.Fields.{is_word}
+use Rattle.cabal_text.specs.Fields.{first_word, is_word}
 use Rattle.cabal_stanzas.specs.declared.stanzas.Field.{Field}
 use Rattle.cabal_stanzas.specs.declared.heads.Head.{Head}
 use Rattle.cabal_stanzas.specs.declared.heads.Head.TheVariants.{Library, Executable, Common, Ignored, Other}
@@ -47,6 +47,10 @@ abbrev pub executable_head : List (List ℕ) → Head
 executable_head [] = Other
 executable_head (name ∷ []) = if is_package_name name then Executable else Other
 executable_head (name ∷ next ∷ more) = Other
+
+-- the words of a head: the first ends at a space, the others are tokens
+abbrev pub head_words : List ℕ → List (List ℕ)
+head_words text = first_word text ∷ tokens_of (drop (length (first_word text)) text)
 
 -- what a head begins
 abbrev pub head_of : List (List ℕ) → Head

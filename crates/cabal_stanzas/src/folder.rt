@@ -102,7 +102,7 @@ fn is_here(path: &[u8]) -> bool
 pub fn is_refused_item(item: &[u8]) -> bool
     ensures { result ≡ is_refused_item item.now }
 {
-    is_foreign(item) || item.starts_with(b"/") || is_here(trimmed(item))
+    is_foreign(item) || without_front(item).starts_with(b"/") || is_here(trimmed(item))
 }
 
 /// What stands behind the last slash.

@@ -1,11 +1,11 @@
 //! The package's name, and the heads of stanzas.
 ghost use Rattle.std.specs.Prelude.{◌≡◌, List, ℕ, IfOk};
 ghost use Rattle.cabal_text.specs.Least.{least_of};
-ghost use Rattle.cabal_stanzas.specs.Heads.{is_name_value, bad_name, refused_names, leading, package_of, is_ignored, library_head, executable_head, head_of, named, library_name, component_name};
+ghost use Rattle.cabal_stanzas.specs.Heads.{is_name_value, bad_name, refused_names, leading, package_of, is_ignored, library_head, executable_head, head_words, head_of, named, library_name, component_name};
 
 use crate::stanzas::{Field, line_named, value_named};
 use bp_base::{Bytes, Name, is_package_name};
-use cabal_text::fields::is_word;
+use cabal_text::fields::{first_word, is_word};
 use cabal_text::least::sooner;
 use cabal_text::tokens::tokens_of;
 use std::alloc::{AllocError, Global};
@@ -88,6 +88,18 @@ fn executable_head(words: &[Bytes]) -> Head
         [name] if is_package_name(name.as_bytes()) => Head::Executable,
         _ => Head::Other,
     }
+}
+
+/// The words of a head: the first one ends at a space.
+#[tactic(auto, using(crate::proofs::HeadLemmas::first_word_within))]
+pub fn head_words(alloc: Global, text: &[u8]) -> Result<Vec<Bytes>, AllocError>
+    ensures { IfOk result (λ words. words.items ≡ head_words text.now) }
+{
+    let first = first_word(text);
+    let mut words = Vec::new(alloc);
+    words.push(Bytes::from_bytes(alloc, first)?)?;
+    words.append(&mut tokens_of(alloc, &text[first.len()..])?)?;
+    Ok(words)
 }
 
 /// What the words of a head begin.

@@ -23,7 +23,7 @@ use mathlib.Core.Former.{list_count, this, none_left}
 use denote.Hole.Carrier.{hidden, out, shown}
 
 -- two names, neither of which is before the other, are one
-one_name : (m n : Text) → (Before m n → ⊥) → (Before n m → ⊥) → m ≡ n
+pub one_name : (m n : Text) → (Before m n → ⊥) → (Before n m → ⊥) → m ≡ n
 one_name m n a b = by (slice_cmp nat_cmp m n) refl
   where
     by : (o : Ordering) → slice_cmp nat_cmp m n ≡ o → m ≡ n

@@ -31,6 +31,8 @@ use Rattle.hole_unify.proofs.Gaps.{fill-class, one_head, one_fill}
 use Rattle.hole_unify.specs.Stands.{Builds, NoFills, MoreFills, made, IsEntry, Stands}
 use Rattle.hole_unify.proofs.Units.{some-or-none, listed-unit, found-among}
 use Rattle.hole_unify.proofs.Unifying.{weight, fill-lighter}
+use Rattle.hole_unify.specs.Occurrence.{AreOfEquations}
+use Rattle.hole_unify.proofs.Occurring.{in-terms, occurs-built}
 
 -- ---- fills in order
 
@@ -379,3 +381,16 @@ module _ (es : List Equation) (lawful : IsLawful es) (nodes : List Node) (s : Is
     moves = all.fills.moves;
     least = least;
   }
+
+  -- the answer is made of the holes and heads of the equations
+  pub answer-occurs : AreOfEquations es (answer built nodes [])
+  answer-occurs = record {
+    holes = λ f a. let o = put f a in in-terms es nodes built table st (Hole f.hole) o.0 o.1;
+    parts = λ f a.
+        let o = put f a in
+        let light : weight f.ident ≡ weight f.ident = refl in
+        occurs-built es nodes built table st (suc (weight f.ident)) o.0 f.ident (omega (arith, light)) o.2;
+  }
+    where
+      put : (f : Fill) → Among f (answer built nodes []) → (k : ℕ) × In nodes (Hole f.hole) k × (built_at k built ≡ Some f.ident)
+      put f a = all.fills.only f.hole f.ident (found-among (answer built nodes []) f all.fills.rise a)

@@ -25,3 +25,6 @@ pub mod Places
 pub mod Stages
 pub mod Solving
 pub mod Filling
+pub mod Lawfulness
+pub mod Occurring
+pub mod Causes

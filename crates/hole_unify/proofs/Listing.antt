@@ -24,7 +24,7 @@ use Rattle.hole_unify.proofs.Places.{ident-of-later, length-later, grows-more}
 
 -- ---- what an identity is made of stands in the table too
 
-some-term : (fs : List Fill) (s : Ident) → Among s (terms_in_fills fs) → (f : Fill) × Among f fs × Among s (terms_of f.ident)
+pub some-term : (fs : List Fill) (s : Ident) → Among s (terms_in_fills fs) → (f : Fill) × Among f fs × Among s (terms_of f.ident)
 some-term [] s h = absurd h
 some-term (f ∷ fs) s h = elim (Among-cases s (terms_of f.ident) (terms_in_fills fs) h) [
   | inl a ↦ (f, inl refl, a)

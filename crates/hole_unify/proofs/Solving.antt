@@ -27,7 +27,8 @@ use Rattle.hole_unify.proofs.Settling.{cycle-among}
 use Rattle.hole_unify.proofs.Places.{nodes-later}
 use Rattle.hole_unify.proofs.Building.{build-ends, no-entries, unbuilt}
 use Rattle.hole_unify.proofs.Grounded.{IsAcyclic, all-done}
-use Rattle.hole_unify.proofs.Answering.{is-answer}
+use Rattle.hole_unify.specs.Occurrence.{AreOfEquations}
+use Rattle.hole_unify.proofs.Answering.{is-answer, answer-occurs}
 use Rattle.hole_unify.proofs.Unifying.{clash_has_no_unifier, cycle_has_no_unifier}
 
 acyclic : (nodes : List Node) → least_cycle (edges_of nodes nodes) nodes ≡ None → IsAcyclic nodes
@@ -124,9 +125,20 @@ half-low es r table classes lawful ok wide f = range-low es r (r.low + (r.high -
 
 -- ---- the answer
 
-pub answer-found : (es : List Equation) (table new : List Ident) (classes : List ℕ) (built : List (Option ℕ)) (fills : List NumberFill) → IsLawful es → IsFree es table classes → Grows table new
-    → ((gs : List Equation) → IsTable gs (nodes_of table classes) → Stands gs (nodes_of table classes) (built_of new built)) → first_ready (nodes_of table classes) (built_of new built) (nodes_of table classes) ≡ None
-    → fills_of new fills ≡ answer (built_of new built) (nodes_of new classes) [] → IsAnswer es (fills_of new fills)
+-- what was built from a table of classes is an answer, made of the holes and heads of the equations
+pub answer-found : (es : List Equation) (table new : List Ident) (classes : List ℕ) (built : List (Option ℕ)) (fills : List NumberFill)
+    → IsLawful es → IsFree es table classes → Grows table new
+    → ((gs : List Equation) → IsTable gs (nodes_of table classes) → Stands gs (nodes_of table classes) (built_of new built))
+    → first_ready (nodes_of table classes) (built_of new built) (nodes_of table classes) ≡ None
+    → fills_of new fills ≡ answer (built_of new built) (nodes_of new classes) []
+    → IsAnswer es (fills_of new fills) × AreOfEquations es (fills_of new fills)
 answer-found es table new classes built fills lawful f grows st stuck made =
-    let same : nodes_of new classes ≡ nodes_of table classes = nodes-later table new classes grows (let e = f.length in omega (arith, e)) in
-    subst (IsAnswer es) (sym (made ∙ ap (λ l. answer (built_of new built) l []) same)) (answer-met es (nodes_of table classes) (built_of new built) lawful f.settled f.acyclic (st es f.settled.joined.table) stuck)
+    let nodes = nodes_of table classes in
+    let same : nodes_of new classes ≡ nodes =
+    nodes-later table new classes grows (let e = f.length in omega (arith, e)) in
+    let is = made ∙ ap (λ l. answer (built_of new built) l []) same in
+    let stands = st es f.settled.joined.table in
+    let done = all-done es lawful nodes f.settled (acyclic nodes f.acyclic) (built_of new built) stuck in (
+      subst (IsAnswer es) (sym is) (answer-met es nodes (built_of new built) lawful f.settled f.acyclic stands stuck),
+      subst (AreOfEquations es) (sym is) (answer-occurs es lawful nodes f.settled (built_of new built) stands done),
+    )

@@ -106,11 +106,11 @@ abbrev mutual
   weight_row end_of-Fill = 0
   weight_row (more_of-Fill h i r) = weight i + weight_row r
 
-abbrev weights : List Fill → ℕ
+abbrev pub weights : List Fill → ℕ
 weights [] = 0
 weights (f ∷ fs) = weight f.ident + weights fs
 
-weight-Module : (u : OfUnit) (m : List ℕ) → weight (Module u m) ≡ suc (weight_unit u)
+pub weight-Module : (u : OfUnit) (m : List ℕ) → weight (Module u m) ≡ suc (weight_unit u)
 unfolding hidden-the_row-Unit-0 hidden
 weight-Module u m = refl
 
@@ -119,7 +119,7 @@ unfolding out-Unit out shown-the_row-Fill-1 shown
 weight_row-list c [] end_of-Fill = refl
 weight_row-list c (x ∷ s) (more_of-Fill h i r) = ap (λ n. weight i + n) (weight_row-list c s r)
 
-weight_unit-out : (u : OfUnit) → weight_unit u ≡ weights (out-Unit u).fills
+pub weight_unit-out : (u : OfUnit) → weight_unit u ≡ weights (out-Unit u).fills
 weight_unit-out (Unit' c s r) = weight_row-list c s r
 
 found-lighter : (n : List ℕ) (fs : List Fill) (i : Ident) → found n fs ≡ Some i → weight i ≤ weights fs

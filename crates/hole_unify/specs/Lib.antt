@@ -11,3 +11,5 @@ pub mod Stands
 pub mod Solve
 pub mod Numbers
 pub mod Stages
+pub mod Lawful
+pub mod Occurrence

@@ -35,7 +35,6 @@ fn class_has_module(table: &IdentTable, classes: &[usize], class: usize) -> bool
     false
 }
 
-/// The name of a hole.
 /// Of two numbers of holes that of the lesser name.
 fn lesser_number(table: &IdentTable, best: Option<usize>, number: usize) -> Option<usize>
     requires number { number < length table.now }

@@ -1,5 +1,5 @@
 //! Laws of the definitions.
-ghost use Rattle.hole_unify.specs.Laws.{ClashHasNoUnifier, CycleHasNoUnifier, AnswersAreOne};
+ghost use Rattle.hole_unify.specs.Laws.{ClashHasNoUnifier, CycleHasNoUnifier, AnswersAreOne, CausesAreOne, NoCauseBesideAnswer};
 
 /// Equations with two different heads in one class have no unifier.
 pub fn clash_has_no_unifier()
@@ -14,4 +14,14 @@ pub fn cycle_has_no_unifier()
 /// There is one answer at most.
 pub fn answers_are_one()
     ensures { AnswersAreOne }
+{}
+
+/// Two causes of one list of equations have one kind, one label and one hole.
+pub fn causes_are_one()
+    ensures { CausesAreOne }
+{}
+
+/// Where equations have an answer, no refusal has a cause.
+pub fn no_cause_beside_answer()
+    ensures { NoCauseBesideAnswer }
 {}

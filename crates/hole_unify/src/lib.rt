@@ -8,6 +8,7 @@ mod classes;
 mod close;
 mod edge;
 mod equation;
+mod lawful;
 mod laws;
 mod lookup;
 mod numbers;
@@ -17,5 +18,9 @@ mod reach;
 mod solve;
 
 pub use equation::{Equation, Equations, Head, IdentUnifyError};
-pub use laws::{answers_are_one, clash_has_no_unifier, cycle_has_no_unifier};
+pub use lawful::are_lawful;
+pub use laws::{
+    answers_are_one, causes_are_one, clash_has_no_unifier, cycle_has_no_unifier,
+    no_cause_beside_answer,
+};
 pub use solve::{SharedFills, unify_idents, unify_shared};

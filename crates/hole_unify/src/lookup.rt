@@ -47,7 +47,6 @@ pub fn hole_name(table: &IdentTable, number: usize) -> Option<&Name>
     }
 }
 
-/// Whether a name comes before another one.
 /// Whether a name stands before another one in byte order.
 pub fn is_before(one: &Name, other: &Name) -> bool
     ensures { result ≡ is_less (slice_cmp nat_cmp one.now other.now) }

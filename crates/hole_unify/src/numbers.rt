@@ -18,8 +18,8 @@ fn number_sides(
 ) -> Result<NumberPair, AllocError>
     ensures { IfOk result (λ pair. IsNumbered table.old equation.now table.new pair) }
 {
-    let one = table.number(alloc, &equation.left)?;
-    let other = table.number(alloc, &equation.right)?;
+    let one = table.number(&equation.left)?;
+    let other = table.number(&equation.right)?;
     Ok(NumberPair { one, other })
 }
 

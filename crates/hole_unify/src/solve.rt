@@ -3,6 +3,7 @@ ghost use Rattle.std.specs.Prelude.{◌≡◌, ◌<◌, ◌+◌, ◌-◌, length
 ghost use Rattle.ident_table.specs.Numbers.{fills_of, AreFillsBelow};
 ghost use Rattle.hole_unify.specs.Unifiers.{IsAnswer};
 ghost use Rattle.hole_unify.specs.Causes.{IsCause, IsLawful};
+ghost use Rattle.hole_unify.specs.Occurrence.{AreOfEquations};
 ghost use Rattle.hole_unify.specs.Solve.{IsSettlement, IsObstacle, IsRange, IsFirst, labelled};
 
 use crate::answer::list_answer;
@@ -165,6 +166,7 @@ pub struct SharedFills {
 pub fn unify_shared(alloc: Global, equations: &Equations) -> Result<SharedFills, IdentUnifyError>
     requires { IsLawful equations.now }
     ensures ok { IfOk result (λ shared. IsAnswer equations.now (fills_of shared.table shared.fills)) }
+    ensures occurs { IfOk result (λ shared. AreOfEquations equations.now (fills_of shared.table shared.fills)) }
     ensures below { IfOk result (λ shared. AreFillsBelow (length shared.table) shared.fills) }
     ensures err { IfErr result (λ error. IsCause equations.now error) }
 {
@@ -193,9 +195,10 @@ pub fn unify_shared(alloc: Global, equations: &Equations) -> Result<SharedFills,
 pub fn unify_idents(alloc: Global, equations: &Equations) -> Result<Fills, IdentUnifyError>
     requires { IsLawful equations.now }
     ensures ok { IfOk result (λ fills. IsAnswer equations.now fills) }
+    ensures occurs { IfOk result (λ fills. AreOfEquations equations.now fills) }
     ensures err { IfErr result (λ error. IsCause equations.now error) }
 {
     let shared = unify_shared(alloc, equations)?;
-    let fills = shared.table.fills_at(alloc, &shared.fills)?;
+    let fills = shared.table.fills_at(&shared.fills)?;
     Ok(fills)
 }

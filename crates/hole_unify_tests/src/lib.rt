@@ -1,9 +1,5 @@
-//! Worked equations of identities, and the test of the condition under which they are unified.
+//! Worked values of `hole_unify`.
 #![tactic(auto)]
-
-mod lawful;
-
-pub use lawful::are_lawful;
 
 #[cfg(test)]
 mod tests;

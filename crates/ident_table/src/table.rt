@@ -16,6 +16,7 @@ use std::marker::Model;
 /// identities.
 #[derive(Drop)]
 pub struct IdentTable {
+    alloc: Global,
     nodes: IndexSet<IdentNode>,
 }
 
@@ -37,11 +38,12 @@ impl Model for IdentTable {
 }
 
 impl IdentTable {
-    /// No identities.
+    /// No identities. The table takes its memory, and that of what it writes out, from this allocator.
     pub fn new(alloc: Global) -> IdentTable
         ensures { result ≡ [] }
     {
         IdentTable {
+            alloc,
             nodes: IndexSet::new(alloc),
         }
     }
@@ -66,19 +68,20 @@ impl IdentTable {
     /// The number of an identity, which is put into the table with all that it is made of, as far as that is not there. Old numbers keep
     /// their identities, also where memory is wanting.
     #[cycle(number)]
-    pub fn number(&mut self, alloc: Global, ident: &Ident) -> Result<usize, AllocError>
+    pub fn number(&mut self, ident: &Ident) -> Result<usize, AllocError>
         ensures number { IfOk result (λ n. slice_get self.new n ≡ Some ident.now) }
         ensures grows { Grows self.old self.new }
         ensures parts { IfOk result (λ n. (t : Ident) → Among t self.new → Among t self.old ⊎ Among t (terms_of ident.now)) }
         ensures table { IfOk result (λ n. IsIdentTable self.new) }
     {
+        let alloc = self.alloc;
         match ident {
             Ident::Hole { name } => self.insert(IdentNode::Hole {
                 name: name.copied(alloc)?,
             }),
             Ident::Module { unit, module } => {
                 let unit = unit.get();
-                let fills = self.number_fills(alloc, unit.fills.as_slice())?;
+                let fills = self.number_fills(unit.fills.as_slice())?;
                 self.number_module(unit.component.copied(alloc)?, fills, module.copied(alloc)?)
             }
         }
@@ -86,15 +89,16 @@ impl IdentTable {
 
     // The fills with the numbers of their identities, in order.
     #[cycle(number)]
-    fn number_fills(&mut self, alloc: Global, fills: &[Fill]) -> Result<NumberFills, AllocError>
+    fn number_fills(&mut self, fills: &[Fill]) -> Result<NumberFills, AllocError>
         ensures numbers { IfOk result (λ r. fills_of self.new r ≡ fills.now) }
         ensures below { IfOk result (AreFillsBelow (length self.new)) }
         ensures grows { Grows self.old self.new }
         ensures parts { IfOk result (λ r. (t : Ident) → Among t self.new → Among t self.old ⊎ Among t (terms_in_fills fills.now)) }
     {
+        let alloc = self.alloc;
         let mut numbers = NumberFills::new(alloc);
         for fill in fills {
-            let ident = self.number(alloc, &fill.ident)?;
+            let ident = self.number(&fill.ident)?;
             numbers.push(NumberFill {
                 hole: fill.hole.copied(alloc)?,
                 ident,
@@ -138,10 +142,11 @@ impl IdentTable {
 
     /// The identity of a number, written out.
     #[cycle(written)]
-    pub fn ident_at(&self, alloc: Global, number: usize) -> Result<Ident, AllocError>
+    pub fn ident_at(&self, number: usize) -> Result<Ident, AllocError>
         requires { number < length self.now }
         ensures { IfOk result (λ t. slice_get self.now number ≡ Some t) }
     {
+        let alloc = self.alloc;
         match self.node_at(number) {
             IdentNode::Hole { name } => Ok(Ident::Hole {
                 name: name.copied(alloc)?,
@@ -153,7 +158,7 @@ impl IdentTable {
             } => {
                 let unit = Unit {
                     component: component.copied(alloc)?,
-                    fills: self.fills_below(alloc, fills.as_slice(), number)?,
+                    fills: self.fills_below(fills.as_slice(), number)?,
                 };
                 Ok(Ident::Module {
                     unit: Boxed::new(alloc, unit)?,
@@ -164,30 +169,26 @@ impl IdentTable {
     }
 
     /// Fills with their identities written out.
-    pub fn fills_at(&self, alloc: Global, fills: &NumberFills) -> Result<Fills, AllocError>
+    pub fn fills_at(&self, fills: &NumberFills) -> Result<Fills, AllocError>
         requires { AreFillsBelow (length self.now) fills.now }
         ensures { IfOk result (λ r. r ≡ fills_of self.now fills.now) }
     {
-        self.fills_below(alloc, fills.as_slice(), self.len())
+        self.fills_below(fills.as_slice(), self.len())
     }
 
     // Fills at numbers below this one, written out.
     #[cycle(written)]
-    fn fills_below(
-        &self,
-        alloc: Global,
-        fills: &[NumberFill],
-        limit: usize,
-    ) -> Result<Fills, AllocError>
+    fn fills_below(&self, fills: &[NumberFill], limit: usize) -> Result<Fills, AllocError>
         requires limit { limit ≤ length self.now }
         requires below { AreFillsBelow limit fills.now }
         ensures { IfOk result (λ r. r ≡ fills_of self.now fills.now) }
     {
+        let alloc = self.alloc;
         let mut written = Items::new(alloc);
         for fill in fills {
             written.push(Fill {
                 hole: fill.hole.copied(alloc)?,
-                ident: self.ident_at(alloc, fill.ident)?,
+                ident: self.ident_at(fill.ident)?,
             })?;
         }
         Ok(written)

@@ -39,7 +39,7 @@ fn is_at(
     number: usize,
     ident: &Ident,
 ) -> Result<bool, AllocError> {
-    Ok(number < table.len() && same_ident(&table.ident_at(alloc, number)?, ident))
+    Ok(number < table.len() && same_ident(&table.ident_at(number)?, ident))
 }
 
 // The module that is filled twice by the identity of a number.
@@ -64,8 +64,8 @@ fn a_hole_is_numbered_once(rt: HostRuntime) -> Result<(), Fail> {
     let alloc = rt.alloc();
     let mut table = IdentTable::new(alloc);
     let ident = hole(alloc, b"H")?;
-    assert!(rt; table.number(alloc, &ident)? == 0);
-    assert!(rt; table.number(alloc, &ident)? == 0);
+    assert!(rt; table.number(&ident)? == 0);
+    assert!(rt; table.number(&ident)? == 0);
     assert!(rt; table.len() == 1);
     assert!(rt; is_at(alloc, &table, 0, &ident)?);
     Ok(())
@@ -76,11 +76,11 @@ fn equal_fills_have_one_number(rt: HostRuntime) -> Result<(), Fail> {
     let alloc = rt.alloc();
     let mut table = IdentTable::new(alloc);
     let ident = module_of(alloc, hole(alloc, b"X")?, hole(alloc, b"X")?)?;
-    assert!(rt; table.number(alloc, &ident)? == 1);
+    assert!(rt; table.number(&ident)? == 1);
     assert!(rt; table.len() == 2);
     assert!(rt; is_at(alloc, &table, 1, &ident)?);
     let other = module_of(alloc, hole(alloc, b"X")?, ident)?;
-    assert!(rt; table.number(alloc, &other)? == 2);
+    assert!(rt; table.number(&other)? == 2);
     assert!(rt; is_at(alloc, &table, 2, &other)?);
     Ok(())
 }
@@ -89,7 +89,7 @@ fn equal_fills_have_one_number(rt: HostRuntime) -> Result<(), Fail> {
 fn shared_parts_stand_once(rt: HostRuntime) -> Result<(), Fail> {
     let alloc = rt.alloc();
     let mut table = IdentTable::new(alloc);
-    let mut top = table.number(alloc, &hole(alloc, b"X")?)?;
+    let mut top = table.number(&hole(alloc, b"X")?)?;
     for _ in 0..40 {
         assert!(rt; top < table.len());
         top = doubled(alloc, &mut table, top)?;

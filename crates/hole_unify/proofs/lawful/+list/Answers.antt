@@ -1,7 +1,7 @@
 use Rattle.std.proofs.Common.{ap, ◌∙◌, arith}
 use Rattle.bp_base.specs.declared.ident.Unit.{out-Unit}
-use Rattle.hole_unify_tests.proofs.Lawfulness.{fills-step, ident-step}
-use Rattle.hole_unify_tests.proofs.lawful.+list.Goals as goal
+use Rattle.hole_unify.proofs.Lawfulness.{fills-step, ident-step}
+use Rattle.hole_unify.proofs.lawful.+list.Goals as goal
 
 pub list_fills-loop-each-preserved : goal.list_fills-loop-each-preserved
 list_fills-loop-each-preserved t c = fills-step c.args.fills.now c.loop-each.each-index c.each-item.result _ _ _ (omega (arith, c.loop-each-test.true)) c.each-item.is c.in_ok-list_ident.ensures c.loop-each.invariant

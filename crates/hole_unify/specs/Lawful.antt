@@ -3,21 +3,15 @@ use Rattle.std.specs.Prelude.{Bool, true, false, ◌&&◌, ◌||◌, not, List, 
 use Rattle.std.specs.Str.{bytes_eq}
 use Rattle.std.specs.Ordering.{nat_cmp}
 use Rattle.std.specs.Cmp.Lexicographic.{slice_cmp}
-use Rattle.std.specs.declared.cmp.Ordering.{Ordering}
-use Rattle.std.specs.declared.cmp.Ordering.TheVariants.{Less, Equal, Greater}
 use Rattle.bp_base.specs.declared.ident.Unit.{Unit as OfUnit, out-Unit}
 use Rattle.bp_base.specs.declared.ident.Fill.{Fill}
 use Rattle.bp_base.specs.Texts.{Text}
+use Rattle.hole_unify.specs.Build.{is_less}
 use Rattle.hole_unify.specs.Causes.{units_of}
 
 abbrev pub units_in_fills : List Fill → List OfUnit
 units_in_fills [] = []
 units_in_fills (f ∷ fs) = units_of f.ident ++ units_in_fills fs
-
-abbrev pub is_less : Ordering → Bool
-is_less Less = true
-is_less Equal = false
-is_less Greater = false
 
 abbrev pub same_holes : List Fill → List Fill → Bool
 same_holes [] [] = true

@@ -1,12 +1,13 @@
--- The test of the condition on units is sound.
+-- The test of the condition on units decides it.
 use Rattle.std.proofs.Common.{◌≡◌, ℕ, suc, ◌+◌, ◌<◌, Bool, true, false, ◌&&◌, ◌||◌, not, List, [], ◌∷◌, ◌++◌, length, get_or, drop, map, inl, inr, refl, ap, sym, ◌∙◌, subst, append_assoc, arith}
-use Rattle.std.specs.Prelude.{IsTrue}
+use Rattle.std.specs.Prelude.{IsTrue, ◌↔◌}
 use Rattle.std.specs.Str.{bytes_eq}
 use Rattle.std.specs.Ordering.{nat_cmp}
 use Rattle.std.specs.Cmp.Lexicographic.{slice_cmp}
 use Rattle.std.specs.declared.cmp.Ordering.{Ordering}
 use Rattle.std.specs.declared.cmp.Ordering.TheVariants.{Less, Equal, Greater}
 use Rattle.std.proofs.Math.Seq.{drop-cons}
+use Rattle.std.proofs.lemmas.Bool.{and_parts, and_from}
 use Rattle.bp_base.specs.declared.ident.Ident.{Ident}
 use Rattle.bp_base.specs.declared.ident.Ident.TheVariants.{Module}
 use Rattle.bp_base.specs.declared.ident.Unit.{Unit as OfUnit, Unit', out-Unit}
@@ -17,7 +18,10 @@ use Rattle.bp_base.specs.Texts.{Text, Before, Rise, RiseAfter}
 use Rattle.bp_base.proofs.Texts.{same_texts, texts_same}
 use Rattle.hole_unify.specs.declared.equation.Equation.{Equation}
 use Rattle.hole_unify.specs.Causes.{IsLawful, units_of, units_below, units_of_row, units_in, holes_of}
-use Rattle.hole_unify_tests.specs.Lawful.{units_in_fills, is_less, same_holes, rise_after, rises, agree, agrees_with, all_agree}
+use Rattle.hole_unify.specs.Build.{is_less}
+use Rattle.hole_unify.proofs.Answering.{earlier}
+use Rattle.hole_unify.proofs.Filling.{less-before}
+use Rattle.hole_unify.specs.Lawful.{units_in_fills, same_holes, rise_after, rises, agree, agrees_with, all_agree}
 use mathlib.Core.Former.{list_count, this, none_left}
 use denote.Hole.Carrier.{hidden, out, shown}
 
@@ -68,27 +72,15 @@ ident-step a u copy m fs now pushed new is same pushes fills made =
 
 -- ---- the test
 
-both : (a b : Bool) → a && b ≡ true → (a ≡ true) × (b ≡ true)
-both true b e = (refl, e)
-both false b e = cc
-
-earlier : (m n : Text) → is_less (slice_cmp nat_cmp m n) ≡ true → Before m n
-earlier m n e = by (slice_cmp nat_cmp m n) refl
-  where
-    by : (o : Ordering) → slice_cmp nat_cmp m n ≡ o → Before m n
-    by Less p = p
-    by Equal p = let f : false ≡ true = sym (ap is_less p) ∙ e in cc
-    by Greater p = let f : false ≡ true = sym (ap is_less p) ∙ e in cc
-
 same-holes : (us vs : List Fill) → same_holes us vs ≡ true → map (λ x. x.hole) us ≡ map (λ x. x.hole) vs
 same-holes [] [] e = refl
 same-holes [] (y ∷ ys) e = cc
 same-holes (x ∷ xs) [] e = cc
-same-holes (x ∷ xs) (y ∷ ys) e = let p = both _ _ e in let h = same_texts x.hole y.hole p.0 in let r = same-holes xs ys p.1 in λ w. h w ∷ r w
+same-holes (x ∷ xs) (y ∷ ys) e = let p = and_parts _ _ e in let h = same_texts x.hole y.hole p.0 in let r = same-holes xs ys p.1 in λ w. h w ∷ r w
 
 rises-after : (h : Text) (fs : List Fill) → rise_after h fs ≡ true → RiseAfter h (map (λ x. x.hole) fs)
 rises-after h [] e = tt
-rises-after h (x ∷ xs) e = let p = both _ _ e in (earlier h x.hole p.0, rises-after x.hole xs p.1)
+rises-after h (x ∷ xs) e = let p = and_parts _ _ e in (earlier h x.hole p.0, rises-after x.hole xs p.1)
 
 rises-all : (fs : List Fill) → rises fs ≡ true → Rise (map (λ x. x.hole) fs)
 rises-all [] e = tt
@@ -101,13 +93,13 @@ units-agree u v e c =
 
 agree-one : (u : OfUnit) (rest : List OfUnit) → agrees_with u rest ≡ true → (v : OfUnit) → Among v rest → agree u v ≡ true
 agree-one u [] e v h = absurd h
-agree-one u (y ∷ rest) e v (inl is) = subst (λ z. agree u z ≡ true) is (both _ _ e).0
-agree-one u (y ∷ rest) e v (inr h) = agree-one u rest (both _ _ e).1 v h
+agree-one u (y ∷ rest) e v (inl is) = subst (λ z. agree u z ≡ true) is (and_parts _ _ e).0
+agree-one u (y ∷ rest) e v (inr h) = agree-one u rest (and_parts _ _ e).1 v h
 
 agree-all : (units rest : List OfUnit) → all_agree units rest ≡ true → (u : OfUnit) → Among u rest → (rises (out-Unit u).fills ≡ true) × (agrees_with u units ≡ true)
 agree-all units [] e u h = absurd h
-agree-all units (y ∷ rest) e u (inl is) = let p = both _ _ (both _ _ e).0 in subst (λ z. (rises (out-Unit z).fills ≡ true) × (agrees_with z units ≡ true)) is (p.0, p.1)
-agree-all units (y ∷ rest) e u (inr h) = agree-all units rest (both _ _ e).1 u h
+agree-all units (y ∷ rest) e u (inl is) = let p = and_parts _ _ (and_parts _ _ e).0 in subst (λ z. (rises (out-Unit z).fills ≡ true) × (agrees_with z units ≡ true)) is (p.0, p.1)
+agree-all units (y ∷ rest) e u (inr h) = agree-all units rest (and_parts _ _ e).1 u h
 
 lawful-met : (es : List Equation) → all_agree (units_in es) (units_in es) ≡ true → IsLawful es
 lawful-met es e = record {
@@ -115,7 +107,50 @@ lawful-met es e = record {
   rising = λ u h. rises-all (out-Unit u).fills (agree-all (units_in es) (units_in es) e u h).0;
 }
 
-pub lawful-found : (es given : List Equation) (units shown : List OfUnit) (r : Bool) → given ≡ es → units ≡ units_in given → shown ≡ units → r ≡ all_agree shown shown → IsTrue r → IsLawful es
-lawful-found es given units shown r is made same tested true_is =
+-- ---- the other way round
+
+holes-same : (us vs : List Fill) → map (λ x. x.hole) us ≡ map (λ x. x.hole) vs → same_holes us vs ≡ true
+holes-same [] [] e = refl
+holes-same [] (y ∷ ys) e = let x : List.[] ≡ y.hole ∷ map (λ z. z.hole) ys = e in cc
+holes-same (x ∷ xs) [] e = let y : x.hole ∷ map (λ z. z.hole) xs ≡ List.[] = e in cc
+holes-same (x ∷ xs) (y ∷ ys) e = and_from _ _ (subst (λ h. bytes_eq x.hole h ≡ true) (first e) (texts_same x.hole)) (holes-same xs ys (rest e))
+  where
+    first : {A : Type 0} {a b : A} {l k : List A} → a ∷ l ≡ b ∷ k → a ≡ b
+    first e = cc
+
+    rest : {A : Type 0} {a b : A} {l k : List A} → a ∷ l ≡ b ∷ k → l ≡ k
+    rest e = cc
+
+after-rises : (h : Text) (fs : List Fill) → RiseAfter h (map (λ x. x.hole) fs) → rise_after h fs ≡ true
+after-rises h [] r = refl
+after-rises h (x ∷ xs) r = and_from _ _ (less-before h x.hole r.0) (after-rises x.hole xs r.1)
+
+all-rises : (fs : List Fill) → Rise (map (λ x. x.hole) fs) → rises fs ≡ true
+all-rises [] r = refl
+all-rises (x ∷ xs) r = after-rises x.hole xs r
+
+agree-units : (u v : OfUnit) → ((out-Unit u).component ≡ (out-Unit v).component → holes_of u ≡ holes_of v) → agree u v ≡ true
+agree-units u v h = by (bytes_eq (out-Unit u).component (out-Unit v).component) refl
+  where
+    by : (b : Bool) → bytes_eq (out-Unit u).component (out-Unit v).component ≡ b → (not b || same_holes (out-Unit u).fills (out-Unit v).fills) ≡ true
+    by true e = holes-same (out-Unit u).fills (out-Unit v).fills (h (same_texts (out-Unit u).component (out-Unit v).component e))
+    by false e = refl
+
+one-agrees : (u : OfUnit) (rest : List OfUnit) → ((v : OfUnit) → Among v rest → agree u v ≡ true) → agrees_with u rest ≡ true
+one-agrees u [] h = refl
+one-agrees u (y ∷ rest) h = and_from _ _ (h y (inl refl)) (one-agrees u rest (λ v a. h v (inr a)))
+
+all-agrees : (units rest : List OfUnit) → ((u : OfUnit) → Among u rest → (rises (out-Unit u).fills ≡ true) × (agrees_with u units ≡ true)) → all_agree units rest ≡ true
+all-agrees units [] h = refl
+all-agrees units (y ∷ rest) h = and_from _ _ (and_from _ _ (h y (inl refl)).0 (h y (inl refl)).1) (all-agrees units rest (λ u a. h u (inr a)))
+
+lawful-tested : (es : List Equation) → IsLawful es → all_agree (units_in es) (units_in es) ≡ true
+lawful-tested es l =
+    all-agrees (units_in es) (units_in es) (λ u a. (all-rises (out-Unit u).fills (l.rising u a), one-agrees u (units_in es) (λ v b. agree-units u v (l.same_holes u v a b))))
+
+-- what is tested is the condition
+pub lawful-found : (es given : List Equation) (units shown : List OfUnit) (r : Bool) → given ≡ es → units ≡ units_in given → shown ≡ units → r ≡ all_agree shown shown → IsTrue r ↔ IsLawful es
+lawful-found es given units shown r is made same tested =
     let all : shown ≡ units_in es = same ∙ made ∙ ap units_in is in
-    lawful-met es ((λ w. all_agree (sym all w) (sym all w)) ∙ sym tested ∙ true_is)
+    let test : r ≡ all_agree (units_in es) (units_in es) = tested ∙ (λ w. all_agree (all w) (all w)) in
+    (λ t. lawful-met es (sym test ∙ t), λ l. test ∙ lawful-tested es l)

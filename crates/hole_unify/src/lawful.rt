@@ -1,14 +1,15 @@
 //! The test of the condition on units.
-ghost use Rattle.std.specs.Prelude.{◌≡◌, ◌++◌, IsTrue, IfOk, OnOk};
+ghost use Rattle.std.specs.Prelude.{◌≡◌, ◌↔◌, ◌++◌, IsTrue, IfOk, OnOk};
 ghost use Rattle.std.specs.Ordering.{nat_cmp};
 ghost use Rattle.std.specs.Cmp.Lexicographic.{slice_cmp};
 ghost use Rattle.hole_unify.specs.Causes.{IsLawful, units_of, units_in};
-ghost use Rattle.hole_unify_tests.specs.Lawful.{is_less, same_holes, rise_after, rises, agree, agrees_with, all_agree, units_in_fills};
+ghost use Rattle.hole_unify.specs.Build.{is_less};
+ghost use Rattle.hole_unify.specs.Lawful.{same_holes, rise_after, rises, agree, agrees_with, all_agree, units_in_fills};
 
-use bp_base::{Fill, Ident, Name, Unit, compare};
-use hole_unify::{Equation, Equations};
+use crate::equation::{Equation, Equations};
+use crate::lookup::is_before;
+use bp_base::{Fill, Ident, Name, Unit};
 use std::alloc::{AllocError, Global};
-use std::cmp::Ordering;
 
 /// Puts the units of an identity at the end of the list.
 #[cycle(list)]
@@ -45,16 +46,6 @@ fn list_equations(alloc: Global, equations: &[Equation]) -> Result<Vec<Unit>, Al
         list_ident(alloc, &each.right, &mut units)?;
     }
     Ok(units)
-}
-
-fn is_before(a: &Name, b: &Name) -> bool
-    ensures { result ≡ is_less (slice_cmp nat_cmp a.now b.now) }
-{
-    match compare(a, b) {
-        Ordering::Less => true,
-        Ordering::Equal => false,
-        Ordering::Greater => false,
-    }
 }
 
 fn have_same_holes(ours: &[Fill], theirs: &[Fill]) -> bool
@@ -117,9 +108,9 @@ fn do_all_agree(units: &[Unit]) -> bool
 }
 
 /// Whether the equations meet the condition of `unify_idents`: units of one component have the same holes, and the holes of each
-/// unit rise strictly. A true answer is proved to be right.
+/// unit rise strictly.
 pub fn are_lawful(alloc: Global, equations: &Equations) -> Result<bool, AllocError>
-    ensures { IfOk result (λ b. IsTrue b → IsLawful equations.now) }
+    ensures { IfOk result (λ b. IsTrue b ↔ IsLawful equations.now) }
 {
     let units = list_equations(alloc, equations.as_slice())?;
     let lawful = do_all_agree(units.as_slice());

@@ -1,5 +1,5 @@
 use Rattle.std.proofs.Common.{length}
-use Rattle.hole_unify_tests.proofs.lawful.+rise_from.Given as goal
+use Rattle.hole_unify.proofs.lawful.+rise_from.Given as goal
 
 abbrev pub decreases-rise_from : goal.decreases-rise_from
 decreases-rise_from l = length l.fills.now
