@@ -2,12 +2,12 @@
 use Rattle.std.proofs.Common.{◌≡◌, inl, inr, Some, None, List, [], ◌∷◌, ◌++◌, length, take, drop, codes, refl, sym, ap, ◌∙◌, subst, arith}
 use Rattle.std.proofs.lemmas.List.{append_cancel_left, append_cancel_right}
 use Rattle.std.proofs.Math.Seq.{take-append_seam, drop-append_seam}
-use Rattle.bp_base.specs.Check.{IsExact}
+use Rattle.bp_checks.specs.Check.{IsExact}
 use Rattle.bp_base.specs.Texts.{Text}
 use Rattle.bp_base.specs.declared.code.Code.TheVariants.{ProjectSyntax, ComponentSyntax, NoComponent, Syntax, IllTyped}
 use Rattle.bp_base.specs.declared.defect.Item.TheVariants.{Offset, Line, Named}
 use Rattle.bp_base.specs.declared.defect.Defect.{Defect}
-use Rattle.bp_base.proofs.Checks.{IsExact-then, IsExact-given}
+use Rattle.bp_checks.proofs.CheckLemmas.{IsExact-then, IsExact-given}
 use Rattle.bp_edges.specs.declared.files.File.{File}
 use Rattle.bp_edges.specs.Files.{content_at}
 use Rattle.hs_plain.specs.declared.plain.Binding.{Binding}

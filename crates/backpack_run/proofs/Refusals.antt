@@ -1,6 +1,6 @@
 -- From what a step answers to what the whole does.
 use Rattle.std.proofs.Common.{◌≡◌, inl, inr, List, [], sym, subst}
-use Rattle.bp_base.specs.Check.{Check, ◌>>=◌}
+use Rattle.bp_checks.specs.Check.{Check, ◌>>=◌}
 use Rattle.bp_base.specs.Texts.{Text}
 use Rattle.bp_base.specs.declared.code.Code.TheVariants.{ProjectSyntax, ComponentSyntax, Syntax}
 use Rattle.bp_base.specs.declared.defect.Item.TheVariants.{Offset, Line}

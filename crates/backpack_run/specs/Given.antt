@@ -1,7 +1,7 @@
 -- What a project gives for a target: the text of its flat program, or what refuses it first. Each file is read where the files before
 -- it pass.
 use Rattle.std.specs.Prelude.{◌≡◌, ℕ, List, []}
-use Rattle.bp_base.specs.Check.{Check, ◌>>=◌, ◌>>◌, given}
+use Rattle.bp_checks.specs.Check.{Check, ◌>>=◌, ◌>>◌, given}
 use Rattle.bp_base.specs.Texts.{Text}
 use Rattle.bp_base.specs.declared.code.Code.TheVariants.{ProjectSyntax, ComponentSyntax, NoComponent, Syntax, IllTyped}
 use Rattle.bp_base.specs.declared.defect.Item.TheVariants.{Offset, Line, Named}

@@ -1,6 +1,6 @@
 -- What the checks of a project are made of.
 use Rattle.std.specs.Prelude.{◌≡◌, ◌⊎◌, ◌≤◌, ◌<◌, Some, None, List, length}
-use Rattle.bp_base.specs.Check.{Check}
+use Rattle.bp_checks.specs.Check.{Check}
 use Rattle.bp_base.specs.Texts.{Text}
 use Rattle.bp_base.specs.declared.code.Code.TheVariants.{NoSource}
 use Rattle.bp_base.specs.declared.defect.Item.TheVariants.{Named}

@@ -1,11 +1,13 @@
 -- The equations of `has_hole` and `closed` at the types as the code sees them.
-use Rattle.std.proofs.Common.{◌≡◌, ℕ, Bool, ◌||◌, ◌&&◌, List, [], ◌∷◌, refl, ap, sym, ◌∙◌}
-use Rattle.std.specs.Prelude.{}
+use Rattle.std.proofs.Common.{◌≡◌, inl, inr, ℕ, Bool, true, ◌||◌, ◌&&◌, List, [], ◌∷◌, refl, ap, sym, ◌∙◌}
+use Rattle.std.proofs.lemmas.Bool.{or_cases, or_left, or_right}
 use Rattle.bp_base.specs.declared.ident.Ident.{Ident}
 use Rattle.bp_base.specs.declared.ident.Ident.TheVariants.{Module}
 use Rattle.bp_base.specs.declared.ident.Unit.{Unit as OfUnit, Unit', out-Unit}
+use Rattle.bp_base.specs.declared.ident.Fill.{Fill}
 use Rattle.bp_base.specs.declared.ident.Ident.TheBlock.{hidden-the_row-Unit-0, shown-the_row-Fill-1, Row_of-Fill, end_of-Fill, more_of-Fill}
-use Rattle.bp_base.specs.Holes.{has_hole, unit_has_hole, row_has_hole, closed, unit_closed, row_closed, fills_have_hole, fills_closed}
+use Rattle.bp_base.specs.Holes.{has_hole, unit_has_hole, row_has_hole, closed, unit_closed, row_closed, fills_have_hole, fills_closed, EachHole}
+use Rattle.bp_base.proofs.Idents.{EachFill}
 use denote.Hole.Carrier.{hidden, out, shown}
 use mathlib.Core.Former.{list_count, this, none_left}
 
@@ -41,3 +43,19 @@ closed-said i u v m r e w p = p ∙ ap unit_closed w ∙ sym (ap closed e ∙ cl
 
 pub has_hole-said : (h : List ℕ) (i : Ident) (u v : OfUnit) (m : List ℕ) (r : Bool) → i ≡ Module u m → v ≡ u → r ≡ unit_has_hole h v → r ≡ has_hole h i
 has_hole-said h i u v m r e w p = p ∙ ap (unit_has_hole h) w ∙ sym (ap (has_hole h) e ∙ has_hole-Module h u m)
+
+-- what holds of each hole that occurs in a module holds of each hole that occurs in its fills
+pub EachHole-fills : (P : List ℕ → Type 0) (u : OfUnit) (m : List ℕ) → EachHole P (Module u m) → EachFill (EachHole P) (out-Unit u).fills
+EachHole-fills P u m h = go (out-Unit u).fills (λ n e. h n (has_hole-Module n u m ∙ (unit_has_hole-out n u ∙ e)))
+  where
+    go : (fs : List Fill) → ((n : List ℕ) → fills_have_hole n fs ≡ true → P n) → EachFill (EachHole P) fs
+    go [] k = tt
+    go (f ∷ fs) k = ((λ n e. k n (or_left (has_hole n f.ident) (fills_have_hole n fs) e)), go fs (λ n e. k n (or_right (has_hole n f.ident) (fills_have_hole n fs) e)))
+
+-- and the other way round
+pub fills-EachHole : (P : List ℕ → Type 0) (u : OfUnit) (m : List ℕ) → EachFill (EachHole P) (out-Unit u).fills → EachHole P (Module u m)
+fills-EachHole P u m h = λ n e. go (out-Unit u).fills h n (sym (unit_has_hole-out n u) ∙ (sym (has_hole-Module n u m) ∙ e))
+  where
+    go : (fs : List Fill) → EachFill (EachHole P) fs → (n : List ℕ) → fills_have_hole n fs ≡ true → P n
+    go [] k n e = cc
+    go (f ∷ fs) k n e = elim (or_cases (has_hole n f.ident) (fills_have_hole n fs) e) [ inl x ↦ k.0 n x | inr x ↦ go fs k.1 n x ]

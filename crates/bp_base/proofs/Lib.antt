@@ -1,6 +1,3 @@
-pub mod Checks
-pub mod Walks
-pub mod Ending
 pub mod Reading
 pub mod Texts
 pub mod Sets

@@ -1,5 +1,5 @@
 -- Holes in identities.
-use Rattle.std.specs.Prelude.{ℕ, Bool, true, false, ◌||◌, ◌&&◌, List, [], ◌∷◌}
+use Rattle.std.specs.Prelude.{◌≡◌, ℕ, Bool, true, false, ◌||◌, ◌&&◌, List, [], ◌∷◌}
 use Rattle.std.specs.Str.{bytes_eq}
 use Rattle.bp_base.specs.declared.ident.Ident.{Ident}
 use Rattle.bp_base.specs.declared.ident.Ident.TheVariants.{Hole, Module'}
@@ -41,3 +41,7 @@ fills_have_hole h (f ∷ fs) = has_hole h f.ident || fills_have_hole h fs
 abbrev pub fills_closed : List Fill → Bool
 fills_closed [] = true
 fills_closed (f ∷ fs) = closed f.ident && fills_closed fs
+
+-- this holds of each hole that occurs
+abbrev pub EachHole : (List ℕ → Type 0) → Ident → Type 0
+EachHole P i = (h : List ℕ) → has_hole h i ≡ true → P h

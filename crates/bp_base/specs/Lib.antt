@@ -1,6 +1,4 @@
 pub mod Codes
-pub mod Check
-pub mod Walk
 pub mod Lists
 pub mod Texts
 pub mod Entities

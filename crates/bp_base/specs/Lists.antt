@@ -17,6 +17,10 @@ abbrev pub AreDistinct : {A : Type 0} → List A → Type 0
 AreDistinct [] = Unit {0}
 AreDistinct (x ∷ xs) = (Among x xs → ⊥) × AreDistinct xs
 
+-- of what is worked off along a path: neither done nor begun
+abbrev pub IsNew : {A : Type 0} → List A → List A → A → Type 0
+IsNew path done a = (Among a done → ⊥) × (Among a path → ⊥)
+
 -- the fact holds of it, and of nothing else
 pub record IsOnly {X : Type 0} (P : X → Type 0) (it : X) : Type 0 where
   pub holds : P it

@@ -1,7 +1,8 @@
 //! What is wrong with a project, with its place, and limits that were passed.
-ghost use Rattle.std.specs.Prelude.{◌≡◌, IfOk};
+ghost use Rattle.std.specs.Prelude.{◌≡◌};
 
-use crate::{Code, Name, Which};
+use crate::{Code, Copied, Name, Which};
+use sqlite_items::Items;
 use std::alloc::{AllocError, Global};
 
 /// What a defect points at in its module.
@@ -41,6 +42,9 @@ pub struct Defect {
     pub place: Place,
 }
 
+/// Defects in order.
+pub type Defects = Items<Defect>;
+
 /// A limit that was passed, with its number plus one.
 #[derive(Clone, Copy, Debug, PartialEq, Eq)]
 pub struct LimitHit {
@@ -63,5 +67,58 @@ impl From<AllocError> for Refusal {
 
     fn from(_error: AllocError) -> Refusal {
         Refusal::NoMemory
+    }
+}
+
+impl Copied for Item {
+    fn copied(&self, alloc: Global) -> Result<Item, AllocError> {
+        match self {
+            Item::Nothing => Ok(Item::Nothing),
+            Item::Offset { at } => Ok(Item::Offset { at: *at }),
+            Item::Line { number } => Ok(Item::Line { number: *number }),
+            Item::Named { occ } => Ok(Item::Named {
+                occ: occ.copied(alloc)?,
+            }),
+            Item::Old {
+                dep,
+                wanted,
+                present,
+            } => Ok(Item::Old {
+                dep: dep.copied(alloc)?,
+                wanted: *wanted,
+                present: *present,
+            }),
+        }
+    }
+}
+
+impl Copied for Place {
+    fn copied(&self, alloc: Global) -> Result<Place, AllocError> {
+        Ok(Place {
+            component: self.component.copied(alloc)?,
+            module: self.module.copied(alloc)?,
+            item: self.item.copied(alloc)?,
+        })
+    }
+}
+
+impl Copied for Defect {
+    fn copied(&self, alloc: Global) -> Result<Defect, AllocError> {
+        Ok(Defect {
+            code: self.code,
+            place: self.place.copied(alloc)?,
+        })
+    }
+}
+
+impl Copied for Refusal {
+    fn copied(&self, alloc: Global) -> Result<Refusal, AllocError> {
+        match self {
+            Refusal::Defect { defect } => Ok(Refusal::Defect {
+                defect: defect.copied(alloc)?,
+            }),
+            Refusal::Limit { hit } => Ok(Refusal::Limit { hit: *hit }),
+            Refusal::NoMemory => Ok(Refusal::NoMemory),
+        }
     }
 }

@@ -3,7 +3,8 @@ ghost use Rattle.std.specs.Prelude.{◌≡◌, ◌↔◌, IfOk, IsTrue};
 ghost use Rattle.bp_base.specs.Entities.{default_fixity};
 
 use crate::{
-    Ident, Kind, Name, Names, OrigName, Scheme, Ty, kind_eq, same_orig_name, same_scheme, same_ty,
+    Copied, Ident, Kind, Name, Names, OrigName, Same, Scheme, Ty, copied_all, kind_eq, same_all,
+    same_ident, same_orig_name, same_scheme, same_ty,
 };
 use sqlite_items::Items;
 use std::alloc::{AllocError, Global};
@@ -108,11 +109,8 @@ pub struct Signature {
 /// Signatures in order of their holes.
 pub type Signatures = Items<Signature>;
 
-impl Field {
-    /// The same field once more.
-    pub fn copied(&self, alloc: Global) -> Result<Field, AllocError>
-        ensures { IfOk result (λ r. r ≡ self.now) }
-    {
+impl Copied for Field {
+    fn copied(&self, alloc: Global) -> Result<Field, AllocError> {
         Ok(Field {
             strict: self.strict,
             ty: self.ty.copied(alloc)?,
@@ -120,24 +118,18 @@ impl Field {
     }
 }
 
-impl Con {
-    /// The same constructor once more.
-    pub fn copied(&self, alloc: Global) -> Result<Con, AllocError>
-        ensures { IfOk result (λ r. r ≡ self.now) }
-    {
+impl Copied for Con {
+    fn copied(&self, alloc: Global) -> Result<Con, AllocError> {
         Ok(Con {
             occ: self.occ.copied(alloc)?,
-            fields: copied_fields(alloc, &self.fields)?,
+            fields: copied_all(alloc, &self.fields)?,
             fixity: self.fixity,
         })
     }
 }
 
-impl Entity {
-    /// The same entity once more.
-    pub fn copied(&self, alloc: Global) -> Result<Entity, AllocError>
-        ensures { IfOk result (λ r. r ≡ self.now) }
-    {
+impl Copied for Entity {
+    fn copied(&self, alloc: Global) -> Result<Entity, AllocError> {
         match self {
             Entity::Abstract { name, kind } => Ok(Entity::Abstract {
                 name: name.copied(alloc)?,
@@ -154,7 +146,7 @@ impl Entity {
                 kind: kind.copied(alloc)?,
                 params: *params,
                 is_new: *is_new,
-                cons: copied_cons(alloc, cons)?,
+                cons: copied_all(alloc, cons)?,
             }),
             Entity::Synonym {
                 name,
@@ -180,15 +172,12 @@ impl Entity {
     }
 }
 
-impl Export {
-    /// The same export once more.
-    pub fn copied(&self, alloc: Global) -> Result<Export, AllocError>
-        ensures { IfOk result (λ r. r ≡ self.now) }
-    {
+impl Copied for Export {
+    fn copied(&self, alloc: Global) -> Result<Export, AllocError> {
         Ok(Export {
             occ: self.occ.copied(alloc)?,
             entity: self.entity.copied(alloc)?,
-            cons: copied_names(alloc, &self.cons)?,
+            cons: copied_all(alloc, &self.cons)?,
         })
     }
 }
@@ -200,76 +189,24 @@ impl Interface {
     {
         Ok(Interface {
             module: self.module.copied(alloc)?,
-            exports: copied_exports(alloc, &self.exports)?,
+            exports: copied_all(alloc, &self.exports)?,
         })
     }
 }
 
-impl Signature {
-    /// The same signature once more.
-    pub fn copied(&self, alloc: Global) -> Result<Signature, AllocError>
-        ensures { IfOk result (λ r. r ≡ self.now) }
-    {
+impl Copied for Signature {
+    fn copied(&self, alloc: Global) -> Result<Signature, AllocError> {
         Ok(Signature {
             hole: self.hole.copied(alloc)?,
-            entries: copied_entities(alloc, &self.entries)?,
+            entries: copied_all(alloc, &self.entries)?,
         })
     }
 }
 
-/// The same names once more.
-pub fn copied_names(alloc: Global, names: &Names) -> Result<Names, AllocError>
-    ensures { IfOk result (λ r. r ≡ names.now) }
-{
-    let mut all = Items::new(alloc);
-    for each in names.as_slice() {
-        all.push(each.copied(alloc)?)?;
+impl Copied for Interface {
+    fn copied(&self, alloc: Global) -> Result<Interface, AllocError> {
+        Interface::copied(self, alloc)
     }
-    Ok(all)
-}
-
-/// The same fields once more.
-pub fn copied_fields(alloc: Global, fields: &Fields) -> Result<Fields, AllocError>
-    ensures { IfOk result (λ r. r ≡ fields.now) }
-{
-    let mut all = Items::new(alloc);
-    for each in fields.as_slice() {
-        all.push(each.copied(alloc)?)?;
-    }
-    Ok(all)
-}
-
-/// The same constructors once more.
-pub fn copied_cons(alloc: Global, cons: &Cons) -> Result<Cons, AllocError>
-    ensures { IfOk result (λ r. r ≡ cons.now) }
-{
-    let mut all = Items::new(alloc);
-    for each in cons.as_slice() {
-        all.push(each.copied(alloc)?)?;
-    }
-    Ok(all)
-}
-
-/// The same entities once more.
-pub fn copied_entities(alloc: Global, entities: &Entities) -> Result<Entities, AllocError>
-    ensures { IfOk result (λ r. r ≡ entities.now) }
-{
-    let mut all = Items::new(alloc);
-    for each in entities.as_slice() {
-        all.push(each.copied(alloc)?)?;
-    }
-    Ok(all)
-}
-
-/// The same exports once more.
-pub fn copied_exports(alloc: Global, exports: &Exports) -> Result<Exports, AllocError>
-    ensures { IfOk result (λ r. r ≡ exports.now) }
-{
-    let mut all = Items::new(alloc);
-    for each in exports.as_slice() {
-        all.push(each.copied(alloc)?)?;
-    }
-    Ok(all)
 }
 
 /// The fixity of an operator without a fixity declaration: `infixl 9` (Haskell 2010 Report, section 4.4.2). It takes no memory.
@@ -282,128 +219,97 @@ pub fn fixity_of_default() -> Fixity
     }
 }
 
-fn same_name(a: &Name, b: &Name) -> bool
-    ensures { IsTrue result ↔ (a.now ≡ b.now) }
-{
-    *a == *b
+impl Same for Field {
+    fn same(&self, other: &Field) -> bool {
+        self.strict == other.strict && same_ty(&self.ty, &other.ty)
+    }
 }
 
-/// Whether two lists of names are equal. It takes no memory.
-pub fn same_names(a: &[Name], b: &[Name]) -> bool
-    ensures { IsTrue result ↔ (a.now ≡ b.now) }
-{
-    if a.len() != b.len() {
-        return false;
+impl Same for Con {
+    fn same(&self, other: &Con) -> bool {
+        self.occ == other.occ
+            && self.fixity == other.fixity
+            && same_all(self.fields.as_slice(), other.fields.as_slice())
     }
-    for i in 0..a.len() {
-        if !same_name(&a[i], &b[i]) {
-            return false;
+}
+
+impl Same for Entity {
+    fn same(&self, other: &Entity) -> bool {
+        match (self, other) {
+            (Entity::Abstract { name: m, kind: k }, Entity::Abstract { name: n, kind: l }) => {
+                same_orig_name(m, n) && kind_eq(k, l)
+            }
+            (
+                Entity::DataType {
+                    name: m,
+                    kind: k,
+                    params: p,
+                    is_new: x,
+                    cons: c,
+                },
+                Entity::DataType {
+                    name: n,
+                    kind: l,
+                    params: q,
+                    is_new: y,
+                    cons: d,
+                },
+            ) => {
+                same_orig_name(m, n)
+                    && kind_eq(k, l)
+                    && *p == *q
+                    && *x == *y
+                    && same_all(c.as_slice(), d.as_slice())
+            }
+            (
+                Entity::Synonym {
+                    name: m,
+                    kind: k,
+                    params: p,
+                    body: b,
+                },
+                Entity::Synonym {
+                    name: n,
+                    kind: l,
+                    params: q,
+                    body: c,
+                },
+            ) => same_orig_name(m, n) && kind_eq(k, l) && *p == *q && same_ty(b, c),
+            (
+                Entity::Value {
+                    name: m,
+                    scheme: s,
+                    fixity: f,
+                },
+                Entity::Value {
+                    name: n,
+                    scheme: t,
+                    fixity: g,
+                },
+            ) => same_orig_name(m, n) && same_scheme(s, t) && *f == *g,
+            _ => false,
         }
     }
-    true
 }
 
-/// Whether two fields are equal. It takes no memory.
-pub fn same_field(a: &Field, b: &Field) -> bool
-    ensures { IsTrue result ↔ (a.now ≡ b.now) }
-{
-    a.strict == b.strict && same_ty(&a.ty, &b.ty)
-}
-
-/// Whether two lists of fields are equal. It takes no memory.
-pub fn same_fields(a: &[Field], b: &[Field]) -> bool
-    ensures { IsTrue result ↔ (a.now ≡ b.now) }
-{
-    if a.len() != b.len() {
-        return false;
+impl Same for Export {
+    fn same(&self, other: &Export) -> bool {
+        self.occ == other.occ
+            && self.entity.same(&other.entity)
+            && same_all(self.cons.as_slice(), other.cons.as_slice())
     }
-    for i in 0..a.len() {
-        if !same_field(&a[i], &b[i]) {
-            return false;
-        }
-    }
-    true
 }
 
-/// Whether two constructors are equal. It takes no memory.
-pub fn same_con(a: &Con, b: &Con) -> bool
-    ensures { IsTrue result ↔ (a.now ≡ b.now) }
-{
-    a.occ == b.occ && a.fixity == b.fixity && same_fields(a.fields.as_slice(), b.fields.as_slice())
+impl Same for Interface {
+    fn same(&self, other: &Interface) -> bool {
+        same_ident(&self.module, &other.module)
+            && same_all(self.exports.as_slice(), other.exports.as_slice())
+    }
 }
 
-/// Whether two lists of constructors are equal. It takes no memory.
-pub fn same_cons(a: &[Con], b: &[Con]) -> bool
-    ensures { IsTrue result ↔ (a.now ≡ b.now) }
-{
-    if a.len() != b.len() {
-        return false;
-    }
-    for i in 0..a.len() {
-        if !same_con(&a[i], &b[i]) {
-            return false;
-        }
-    }
-    true
-}
-
-/// Whether two entities are equal. It takes no memory.
-pub fn same_entity(a: &Entity, b: &Entity) -> bool
-    ensures { IsTrue result ↔ (a.now ≡ b.now) }
-{
-    match (a, b) {
-        (Entity::Abstract { name: m, kind: k }, Entity::Abstract { name: n, kind: l }) => {
-            same_orig_name(m, n) && kind_eq(k, l)
-        }
-        (
-            Entity::DataType {
-                name: m,
-                kind: k,
-                params: p,
-                is_new: x,
-                cons: c,
-            },
-            Entity::DataType {
-                name: n,
-                kind: l,
-                params: q,
-                is_new: y,
-                cons: d,
-            },
-        ) => {
-            same_orig_name(m, n)
-                && kind_eq(k, l)
-                && *p == *q
-                && *x == *y
-                && same_cons(c.as_slice(), d.as_slice())
-        }
-        (
-            Entity::Synonym {
-                name: m,
-                kind: k,
-                params: p,
-                body: b,
-            },
-            Entity::Synonym {
-                name: n,
-                kind: l,
-                params: q,
-                body: c,
-            },
-        ) => same_orig_name(m, n) && kind_eq(k, l) && *p == *q && same_ty(b, c),
-        (
-            Entity::Value {
-                name: m,
-                scheme: s,
-                fixity: f,
-            },
-            Entity::Value {
-                name: n,
-                scheme: t,
-                fixity: g,
-            },
-        ) => same_orig_name(m, n) && same_scheme(s, t) && *f == *g,
-        _ => false,
+impl Same for Signature {
+    fn same(&self, other: &Signature) -> bool {
+        self.hole == other.hole && same_all(self.entries.as_slice(), other.entries.as_slice())
     }
 }
 
@@ -411,7 +317,5 @@ pub fn same_entity(a: &Entity, b: &Entity) -> bool
 pub fn same_export(a: &Export, b: &Export) -> bool
     ensures { IsTrue result ↔ (a.now ≡ b.now) }
 {
-    a.occ == b.occ
-        && same_entity(&a.entity, &b.entity)
-        && same_names(a.cons.as_slice(), b.cons.as_slice())
+    a.same(b)
 }

@@ -1,5 +1,4 @@
-//! What every crate of the product speaks of: texts, identities, types, interfaces, defects, limits and steps; and, for
-//! contracts, checks and walks.
+//! What every crate of the product speaks of: texts, identities, types, interfaces, defects, limits and steps.
 #![tactic(auto)]
 
 mod code;
@@ -8,6 +7,7 @@ mod entity;
 mod hole;
 mod ident;
 mod linking;
+mod lists;
 mod names;
 mod special;
 mod steps;
@@ -15,12 +15,10 @@ mod text;
 mod ty;
 
 pub use code::{Code, Which, defect_code};
-pub use defect::{Defect, Item, LimitHit, Place, Refusal};
+pub use defect::{Defect, Defects, Item, LimitHit, Place, Refusal};
 pub use entity::{
     Assoc, Con, Cons, Entities, Entity, Export, Exports, Field, Fields, Fixity, Interface,
-    Interfaces, Signature, Signatures, copied_cons, copied_entities, copied_exports, copied_fields,
-    copied_names, fixity_of_default, same_con, same_cons, same_entity, same_export, same_field,
-    same_fields, same_names,
+    Interfaces, Signature, Signatures, fixity_of_default, same_export,
 };
 pub use hole::{is_closed, is_closed_unit, occurs};
 pub use ident::{Fill, Fills, Ident, Unit, copied_fills, same_fills, same_ident, same_unit};
@@ -28,6 +26,7 @@ pub use linking::{
     Include, Includes, Linking, Provision, Provisions, Rename, Renames, Renaming, Shown, Showns,
     copied_provisions, copied_renames,
 };
+pub use lists::{Copied, Same, copied_all, copied_names, same_all, same_names};
 pub use names::{is_component_name, is_module_name, is_package_name};
 pub use special::{Special, base_prelude, special_name, special_of, special_text};
 pub use steps::Steps;

@@ -1,7 +1,10 @@
 //! What mixing in components gives: provisions, renamings of requirements, includes and linkings.
 ghost use Rattle.std.specs.Prelude.{◌≡◌, IfOk};
 
-use crate::{Fills, Ident, Name, Names, OrigName, Unit};
+use crate::{
+    Copied, Fills, Ident, Name, Names, OrigName, Same, Unit, copied_all, same_all, same_ident,
+    same_unit,
+};
 use sqlite_items::Items;
 use std::alloc::{AllocError, Global};
 
@@ -86,24 +89,76 @@ impl Provision {
     }
 }
 
+impl Copied for Rename {
+    fn copied(&self, alloc: Global) -> Result<Rename, AllocError> {
+        Rename::copied(self, alloc)
+    }
+}
+
+impl Copied for Provision {
+    fn copied(&self, alloc: Global) -> Result<Provision, AllocError> {
+        Provision::copied(self, alloc)
+    }
+}
+
+impl Copied for Include {
+    fn copied(&self, alloc: Global) -> Result<Include, AllocError> {
+        Ok(Include {
+            unit: self.unit.copied(alloc)?,
+            provides: copied_all(alloc, &self.provides)?,
+            needs: copied_all(alloc, &self.needs)?,
+        })
+    }
+}
+
+impl Copied for Linking {
+    fn copied(&self, alloc: Global) -> Result<Linking, AllocError> {
+        Ok(Linking {
+            holes: copied_all(alloc, &self.holes)?,
+            required: copied_all(alloc, &self.required)?,
+            includes: copied_all(alloc, &self.includes)?,
+        })
+    }
+}
+
 /// The same renamings once more.
 pub fn copied_renames(alloc: Global, renames: &Renames) -> Result<Renames, AllocError>
     ensures { IfOk result (λ r. r ≡ renames.now) }
 {
-    let mut all = Items::new(alloc);
-    for each in renames.as_slice() {
-        all.push(each.copied(alloc)?)?;
-    }
-    Ok(all)
+    copied_all(alloc, renames)
 }
 
 /// The same provisions once more.
 pub fn copied_provisions(alloc: Global, provisions: &Provisions) -> Result<Provisions, AllocError>
     ensures { IfOk result (λ r. r ≡ provisions.now) }
 {
-    let mut all = Items::new(alloc);
-    for each in provisions.as_slice() {
-        all.push(each.copied(alloc)?)?;
+    copied_all(alloc, provisions)
+}
+
+impl Same for Rename {
+    fn same(&self, other: &Rename) -> bool {
+        self.from == other.from && self.to == other.to
     }
-    Ok(all)
+}
+
+impl Same for Provision {
+    fn same(&self, other: &Provision) -> bool {
+        self.name == other.name && same_ident(&self.ident, &other.ident)
+    }
+}
+
+impl Same for Include {
+    fn same(&self, other: &Include) -> bool {
+        same_unit(&self.unit, &other.unit)
+            && same_all(self.provides.as_slice(), other.provides.as_slice())
+            && same_all(self.needs.as_slice(), other.needs.as_slice())
+    }
+}
+
+impl Same for Linking {
+    fn same(&self, other: &Linking) -> bool {
+        same_all(self.holes.as_slice(), other.holes.as_slice())
+            && same_all(self.required.as_slice(), other.required.as_slice())
+            && same_all(self.includes.as_slice(), other.includes.as_slice())
+    }
 }

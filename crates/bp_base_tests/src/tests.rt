@@ -118,38 +118,226 @@ fn holes_are_found_at_depth(rt: HostRuntime) -> Result<(), Fail> {
     Ok(())
 }
 
-#[test]
-fn copies_are_equal_and_others_are_not(rt: HostRuntime) -> Result<(), Fail> {
-    let alloc = rt.alloc();
-    let entity = value(alloc, 5)?;
-    let other = value(alloc, 6)?;
-    assert!(rt; same_entity(&entity.copied(alloc)?, &entity));
-    assert!(rt; !same_entity(&other, &entity));
+/// `p[H=<A>]/M.C` with a strict field of type Int and a field whose type is the data type's variable, both as declared.
+fn constructors(alloc: Global) -> Result<Cons, AllocError> {
+    let int = Ty::Con {
+        name: special_name(alloc, Space::Types, Special::List)?,
+        kind: Kind::Star,
+    };
+    let mut first = Items::new(alloc);
+    first.push(Field {
+        strict: true,
+        ty: int,
+    })?;
+    let mut second = Items::new(alloc);
+    second.push(Field {
+        strict: false,
+        ty: Ty::Var { index: 0 },
+    })?;
     let mut cons = Items::new(alloc);
-    cons.push(name(alloc, b"C")?)?;
-    let export = Export {
-        occ: name(alloc, b"x")?,
-        entity,
-        cons,
-    };
-    assert!(rt; same_export(&export.copied(alloc)?, &export));
-    let mut exports = Items::new(alloc);
-    exports.push(export)?;
-    let interface = Interface {
+    for (occ, fields) in [(b"A", first), (b"B", second)] {
+        cons.push(Con {
+            occ: name(alloc, occ)?,
+            fields,
+            fixity: fixity_of_default(),
+        })?;
+    }
+    Ok(cons)
+}
+
+fn type_name(alloc: Global) -> Result<OrigName, AllocError> {
+    Ok(OrigName {
+        at: indefinite(alloc)?,
+        space: Space::Types,
+        occ: name(alloc, b"T")?,
+    })
+}
+
+/// `data T a = A !Int | B a`, a synonym, an abstract type, and a value.
+fn entities(alloc: Global) -> Result<Entities, AllocError> {
+    let mut all = Items::new(alloc);
+    all.push(Entity::DataType {
+        name: type_name(alloc)?,
+        kind: Kind::Star,
+        params: 1,
+        is_new: false,
+        cons: constructors(alloc)?,
+    })?;
+    all.push(Entity::Synonym {
+        name: type_name(alloc)?,
+        kind: Kind::Star,
+        params: 1,
+        body: Ty::Var { index: 0 },
+    })?;
+    all.push(Entity::Abstract {
+        name: type_name(alloc)?,
+        kind: Kind::Star,
+    })?;
+    all.push(value(alloc, 5)?)?;
+    Ok(all)
+}
+
+fn exports(alloc: Global) -> Result<Exports, AllocError> {
+    let mut all = Items::new(alloc);
+    for entity in entities(alloc)?.as_slice() {
+        let mut cons = Items::new(alloc);
+        cons.push(name(alloc, b"C")?)?;
+        all.push(Export {
+            occ: name(alloc, b"x")?,
+            entity: entity.copied(alloc)?,
+            cons,
+        })?;
+    }
+    Ok(all)
+}
+
+fn provisions(alloc: Global) -> Result<Provisions, AllocError> {
+    let mut all = Items::new(alloc);
+    all.push(Provision {
+        name: name(alloc, b"M")?,
+        ident: indefinite(alloc)?,
+    })?;
+    Ok(all)
+}
+
+fn renames(alloc: Global) -> Result<Renames, AllocError> {
+    let mut all = Items::new(alloc);
+    all.push(Rename {
+        from: name(alloc, b"H")?,
+        to: name(alloc, b"A")?,
+    })?;
+    Ok(all)
+}
+
+fn includes(alloc: Global) -> Result<Includes, AllocError> {
+    let mut all = Items::new(alloc);
+    all.push(Include {
+        unit: Unit {
+            component: name(alloc, b"p")?,
+            fills: Items::new(alloc),
+        },
+        provides: provisions(alloc)?,
+        needs: renames(alloc)?,
+    })?;
+    Ok(all)
+}
+
+fn linkings(alloc: Global) -> Result<Items<Linking>, AllocError> {
+    let mut holes = Items::new(alloc);
+    holes.push(name(alloc, b"A")?)?;
+    let mut all = Items::new(alloc);
+    all.push(Linking {
+        holes,
+        required: provisions(alloc)?,
+        includes: includes(alloc)?,
+    })?;
+    Ok(all)
+}
+
+/// A copy of a list that isn't empty equals it, and the list without its last item doesn't.
+fn copies_are_equal<T: Copied + Same>(
+    alloc: Global,
+    mut items: Items<T>,
+) -> Result<bool, AllocError> {
+    let copy = copied_all(alloc, &items)?;
+    let equal = same_all(copy.as_slice(), items.as_slice());
+    let _last = items.pop();
+    Ok(equal && !same_all(copy.as_slice(), items.as_slice()))
+}
+
+#[test]
+fn copies_are_equal_and_shorter_lists_are_not(rt: HostRuntime) -> Result<(), Fail> {
+    let alloc = rt.alloc();
+    assert!(rt; copies_are_equal(alloc, entities(alloc)?)?);
+    assert!(rt; copies_are_equal(alloc, exports(alloc)?)?);
+    assert!(rt; copies_are_equal(alloc, provisions(alloc)?)?);
+    assert!(rt; copies_are_equal(alloc, renames(alloc)?)?);
+    assert!(rt; copies_are_equal(alloc, includes(alloc)?)?);
+    assert!(rt; copies_are_equal(alloc, linkings(alloc)?)?);
+    let mut interfaces = Items::new(alloc);
+    interfaces.push(Interface {
         module: indefinite(alloc)?,
-        exports,
-    };
-    let copy = interface.copied(alloc)?;
-    assert_eq!(rt; copy.exports.len(), 1);
-    let mut entries = Items::new(alloc);
-    entries.push(other)?;
-    let signature = Signature {
+        exports: exports(alloc)?,
+    })?;
+    assert!(rt; copies_are_equal(alloc, interfaces)?);
+    let mut signatures = Items::new(alloc);
+    signatures.push(Signature {
         hole: name(alloc, b"H")?,
-        entries,
+        entries: entities(alloc)?,
+    })?;
+    assert!(rt; copies_are_equal(alloc, signatures)?);
+    Ok(())
+}
+
+#[test]
+fn texts_and_lists_are_copied(rt: HostRuntime) -> Result<(), Fail> {
+    let alloc = rt.alloc();
+    let path = Path::from_bytes(alloc, b"p/M.hs")?;
+    assert!(rt; path.copied(alloc)? == path);
+    let bytes = Bytes::from_bytes(alloc, b"x = 1")?;
+    assert!(rt; bytes.copied(alloc)? == bytes);
+    let mut names = Items::new(alloc);
+    names.push(name(alloc, b"M")?)?;
+    assert!(rt; same_names(copied_names(alloc, &names)?.as_slice(), names.as_slice()));
+    let renames = renames(alloc)?;
+    assert!(rt;
+        same_all(
+            copied_renames(alloc, &renames)?.as_slice(),
+            renames.as_slice()
+        )
+    );
+    let provided = provisions(alloc)?;
+    assert!(rt;
+        same_all(
+            copied_provisions(alloc, &provided)?.as_slice(),
+            provided.as_slice()
+        )
+    );
+    let fills = match indefinite(alloc)? {
+        Ident::Module { unit, module: _ } => copied_fills(alloc, &unit.get().fills)?,
+        Ident::Hole { name: _ } => Items::new(alloc),
     };
-    let copy = signature.copied(alloc)?;
-    assert!(rt; copy.hole == signature.hole);
-    assert_eq!(rt; copy.entries.len(), 1);
+    assert_eq!(rt; fills.len(), 1);
+    Ok(())
+}
+
+fn item(alloc: Global, at: usize) -> Result<Item, AllocError> {
+    match at {
+        0 => Ok(Item::Nothing),
+        1 => Ok(Item::Offset { at: 7 }),
+        2 => Ok(Item::Line { number: 3 }),
+        3 => Ok(Item::Named {
+            occ: name(alloc, b"x")?,
+        }),
+        _ => Ok(Item::Old {
+            dep: name(alloc, b"q")?,
+            wanted: 2,
+            present: 4,
+        }),
+    }
+}
+
+#[test]
+fn copies_of_defects_are_equal(rt: HostRuntime) -> Result<(), Fail> {
+    let alloc = rt.alloc();
+    for at in 0..5 {
+        let defect = Defect {
+            code: Code::Syntax,
+            place: Place {
+                component: name(alloc, b"p")?,
+                module: name(alloc, b"M")?,
+                item: item(alloc, at)?,
+            },
+        };
+        assert!(rt; defect.copied(alloc)? == defect);
+        let refusal = Refusal::Defect { defect };
+        match (refusal.copied(alloc)?, &refusal) {
+            (Refusal::Defect { defect }, Refusal::Defect { defect: first }) => {
+                assert!(rt; defect == *first);
+            }
+            _ => assert!(rt; false),
+        }
+    }
     Ok(())
 }
 

@@ -7,7 +7,7 @@ use Rattle.std.specs.List.Sorted.{IsStrictlySortedBy}
 use Rattle.std.proofs.lemmas.Map.Keys.{sorted_from_strictly_increasing}
 use Rattle.std.proofs.lemmas.Cmp.{ranked}
 use Rattle.bp_base.specs.Lists.{Among}
-use Rattle.bp_base.specs.Walk.{IsNew}
+use Rattle.bp_base.specs.Lists.{IsNew}
 use Rattle.hs_core.specs.declared.group.UseList.{UseList}
 use Rattle.hs_core.specs.declared.group.IndexGroup.{IndexGroup}
 use Rattle.hs_core.specs.Groups.{uses_at, indices, Ends, IsGroupOf, Grouped, GroupsAreOne}

@@ -4,7 +4,7 @@ use Rattle.std.proofs.lemmas.Bool.{cases_eq}
 use Rattle.std.specs.Prelude.{reverse}
 use Rattle.std.proofs.lemmas.List.{reverse-append}
 use Rattle.bp_base.specs.Lists.{Among}
-use Rattle.bp_base.specs.Walk.{IsNew}
+use Rattle.bp_base.specs.Lists.{IsNew}
 use Rattle.hs_core.specs.declared.group.UseList.{UseList}
 use Rattle.hs_core.specs.declared.group.Walked.{Walked}
 use Rattle.hs_core.specs.declared.group.Step.{Step}

@@ -3,7 +3,7 @@ use Rattle.std.proofs.Common.{◌≡◌, ◌⊎◌, inl, inr, ℕ, zero, suc, �
 use Rattle.std.proofs.lemmas.List.{append-nil, get_or_past}
 use Rattle.std.proofs.lemmas.Bool.{cases_lt}
 use Rattle.bp_base.specs.Lists.{Among}
-use Rattle.bp_base.specs.Walk.{IsNew}
+use Rattle.bp_base.specs.Lists.{IsNew}
 use Rattle.bp_base.proofs.Sets.{among-left, among-right, among-either}
 use Rattle.hs_core.specs.declared.group.UseList.{UseList}
 use Rattle.hs_core.specs.Groups.{uses_at, InRange, Reaches, Together, indices, Ends}

@@ -3,7 +3,7 @@
 use Rattle.std.specs.Prelude.{◌≡◌, ◌⊎◌, ◌<◌, ℕ, zero, suc, List, [], ◌∷◌, ◌++◌, length, slice_index_or}
 use Rattle.std.specs.List.Sorted.{IsStrictlyIncreasing}
 use Rattle.bp_base.specs.Lists.{Among}
-use Rattle.bp_base.specs.Walk.{IsNew}
+use Rattle.bp_base.specs.Lists.{IsNew}
 use Rattle.hs_core.specs.declared.group.UseList.{UseList}
 use Rattle.hs_core.specs.declared.group.IndexGroup.{IndexGroup}
 

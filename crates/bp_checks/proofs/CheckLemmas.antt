@@ -1,7 +1,7 @@
 -- Checks that are exact stay so when they are joined, and so does what stands with the limits.
 use Rattle.std.proofs.Common.{◌≡◌, inl, inr, ℕ, List, [], ◌∷◌, ◌++◌, refl, sym, ap, subst, ◌∙◌, drop, length, ◌<◌, ◌+◌, get_or}
 use Rattle.std.proofs.lemmas.List.{drop_more}
-use Rattle.bp_base.specs.Check.{Check, ◌>>=◌, given, PassesAll, FailsIn, each, refusing, IsExact, IsWithin, Through}
+use Rattle.bp_checks.specs.Check.{Check, ◌>>=◌, given, PassesAll, FailsIn, each, refusing, IsExact, IsWithin, Through}
 
 pub IsExact-then : {B C R : Type 0} (s : Check B R) (t : B → Check C R) → IsExact s → ((b : B) → IsExact (t b)) → IsExact (s >>= t)
 IsExact-then s t e f = record {
@@ -66,6 +66,13 @@ IsWithin-then Kept s s' t t' h k = record {
     go : (r : _) → Kept r → (s >>= t).fails r → (s' >>= t').fails r
     go r l (inl p) = inl (h.refusal r l p)
     go r l (inr p) = inr (p.0, h.answer p.0 p.1, (k p.0).refusal r l p.2)
+
+-- with another refusal
+pub IsWithin-refusing : {B R Q : Type 0} (Kept : R → Type 0) (Shown : Q → Type 0) (f : R → Q) (s t : Check B R) → ((r : R) → Shown (f r) → Kept r) → IsWithin Kept s t → IsWithin Shown (refusing f s) (refusing f t)
+IsWithin-refusing Kept Shown f s t k h = record {
+  answer = h.answer;
+  refusal = λ q l p. (p.0, h.refusal p.0 (k p.0 (subst Shown p.2 l)) p.1, p.2);
+}
 
 pub IsWithin-given : {B R : Type 0} (Kept : R → Type 0) (b : B) → IsWithin Kept (given b) (given b)
 IsWithin-given Kept b = record { answer = λ c p. p; refusal = λ r l p. p }

@@ -1,0 +1,7 @@
+pub mod CheckLemmas
+pub mod WalkLemmas
+pub mod ReachedLemmas
+pub mod EndingLemmas
+pub mod RefusedLemmas
+pub mod LoopLemmas
+pub mod StepLemmas
