@@ -5,7 +5,8 @@ ghost use Rattle.hs_trees.specs.Kinds.{kind_form, akind_form, depth_of_kind, dep
 
 use crate::leaf::{after_arrow, after_left_paren, after_right_paren, after_star};
 use crate::limit::{allows, lower};
-use hs_trees::{AKindTree, Fault, KindTree, Terminal};
+use hs_tokens::Terminal;
+use hs_trees::{AKindTree, Fault, KindTree};
 use sqlite_items::{Boxed, Items};
 use std::alloc::Global;
 

@@ -1,16 +1,16 @@
 //! The kind that tokens spell.
 ghost use Rattle.std.specs.Prelude.{◌≡◌, ◌↔◌, List, map, IsTrue, MatchResult, Some, None};
-ghost use Rattle.hs_trees.specs.Terminals.{terminal_of};
+ghost use Rattle.hs_tokens.specs.Terminals.{terminal_of};
 ghost use Rattle.hs_trees.specs.Kinds.{kind_form};
 ghost use Rattle.hs_trees.specs.Whole.{IsWhole, IsAnswer, Begins, Spells};
-ghost use Rattle.hs_trees.specs.declared.terminal.Terminal.{Terminal};
+ghost use Rattle.hs_tokens.specs.declared.terminal.Terminal.{Terminal};
 ghost use Rattle.hs_trees.specs.declared.types.KindTree.{KindTree};
 ghost use Rattle.hs_trees.specs.declared.error.ParseError.TheVariants.{NoMemory};
 
 use crate::kinds::read_kind;
 use crate::limit::MAX_DEPTH;
-use hs_tokens::Tokens;
-use hs_trees::{Fault, KindTree, ParseError, Terminal, terminals_of};
+use hs_tokens::{Terminal, Tokens, terminals_of};
+use hs_trees::{Fault, KindTree, ParseError};
 use std::alloc::Global;
 
 /// The kind that all the terminals spell, within the limit.

@@ -1,16 +1,16 @@
 //! The type that tokens spell.
 ghost use Rattle.std.specs.Prelude.{◌≡◌, ◌↔◌, List, map, IsTrue, MatchResult, Some, None};
-ghost use Rattle.hs_trees.specs.Terminals.{terminal_of};
+ghost use Rattle.hs_tokens.specs.Terminals.{terminal_of};
 ghost use Rattle.hs_trees.specs.Types.{type_form};
 ghost use Rattle.hs_trees.specs.Whole.{IsWhole, IsAnswer, Begins, Spells};
-ghost use Rattle.hs_trees.specs.declared.terminal.Terminal.{Terminal};
+ghost use Rattle.hs_tokens.specs.declared.terminal.Terminal.{Terminal};
 ghost use Rattle.hs_trees.specs.declared.types.TypeTree.{TypeTree};
 ghost use Rattle.hs_trees.specs.declared.error.ParseError.TheVariants.{NoMemory};
 
 use crate::limit::MAX_DEPTH;
 use crate::types::read_type;
-use hs_tokens::Tokens;
-use hs_trees::{Fault, ParseError, Terminal, TypeTree, terminals_of};
+use hs_tokens::{Terminal, Tokens, terminals_of};
+use hs_trees::{Fault, ParseError, TypeTree};
 use std::alloc::Global;
 
 /// The type that all the terminals spell, within the limit.

@@ -1,12 +1,12 @@
 //! Looks at the next terminals of a pattern.
 ghost use Rattle.std.specs.Prelude.{◌≡◌, ◌∷◌, MatchOption, false};
 ghost use Rattle.hs_trees.specs.Reading.{begins};
-ghost use Rattle.hs_trees.specs.Terminals.{is_at, is_backquote, is_con, is_integer, is_minus, minus, starts_qconop};
+ghost use Rattle.hs_tokens.specs.Terminals.{is_at, is_backquote, is_con, is_integer, is_minus, minus, starts_qconop};
 ghost use Rattle.hs_trees.specs.Patterns.{starts_apat, starts_pat};
-ghost use Rattle.hs_trees.specs.declared.terminal.Terminal.TheVariants.{At, Backquote, Con, Integer, VarSym};
+ghost use Rattle.hs_tokens.specs.declared.terminal.Terminal.TheVariants.{At, Backquote, Con, Integer, VarSym};
 
 use bp_base::Bytes;
-use hs_trees::Terminal;
+use hs_tokens::Terminal;
 
 /// What stands after a `@`.
 pub fn after_at(tokens: &[Terminal]) -> Option<&[Terminal]>

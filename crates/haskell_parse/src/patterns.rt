@@ -2,7 +2,7 @@
 ghost use Rattle.std.specs.Prelude.{◌≡◌, ◌∷◌, ◌++◌, true, false};
 ghost use Rattle.hs_trees.specs.Answers.{Answers, Within};
 ghost use Rattle.hs_trees.specs.Patterns.{var_tokens, opens_pat, apat_form, apats_form, lpat_form, pat_form, pats_form, depth_of_apat, depth_of_apats, depth_of_lpat, depth_of_pat, depth_of_pats};
-ghost use Rattle.hs_trees.specs.declared.terminal.Terminal.TheVariants.{LeftParen, LeftBracket, Tilde};
+ghost use Rattle.hs_tokens.specs.declared.terminal.Terminal.TheVariants.{LeftParen, LeftBracket, Tilde};
 
 use crate::leaf::{after_comma, after_right_bracket, after_right_paren};
 use crate::limit::{allows, lower};
@@ -12,9 +12,8 @@ use crate::pattern_leaf::{
 use crate::qconop::read_qconop;
 use crate::tuple_name::read_tuple_name;
 use bp_base::Name;
-use hs_trees::{
-    APatTree, Fault, GConTree, LPatTree, LiteralTree, OpLPat, PatTree, Terminal, VarTree,
-};
+use hs_tokens::Terminal;
+use hs_trees::{APatTree, Fault, GConTree, LPatTree, LiteralTree, OpLPat, PatTree, VarTree};
 use sqlite_items::{Boxed, Items};
 use std::alloc::Global;
 

@@ -2,11 +2,12 @@
 ghost use Rattle.std.specs.Prelude.{◌≡◌, ◌∷◌};
 ghost use Rattle.hs_trees.specs.Answers.{Answers};
 ghost use Rattle.hs_trees.specs.Patterns.{qconop_form};
-ghost use Rattle.hs_trees.specs.declared.terminal.Terminal.TheVariants.{Backquote};
+ghost use Rattle.hs_tokens.specs.declared.terminal.Terminal.TheVariants.{Backquote};
 
 use crate::pattern_leaf::{after_backquote, after_con};
 use bp_base::Name;
-use hs_trees::{Fault, QConOpTree, Terminal};
+use hs_tokens::Terminal;
+use hs_trees::{Fault, QConOpTree};
 use std::alloc::Global;
 
 /// A constructor operator: a symbol, `:`, or a constructor between backquotes.

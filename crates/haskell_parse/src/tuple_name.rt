@@ -4,7 +4,8 @@ ghost use Rattle.hs_trees.specs.Answers.{Answers};
 ghost use Rattle.hs_trees.specs.Types.{tuple_name_form};
 
 use crate::leaf::{after_comma, after_right_paren};
-use hs_trees::{Fault, Terminal};
+use hs_tokens::Terminal;
+use hs_trees::Fault;
 
 /// The commas of a tuple's name, at most 14 and at least one, and the `)` after them.
 pub fn read_tuple_name(tokens: &[Terminal]) -> Result<(usize, &[Terminal]), Fault>

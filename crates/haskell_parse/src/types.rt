@@ -2,13 +2,14 @@
 ghost use Rattle.std.specs.Prelude.{◌≡◌, ◌∷◌, false};
 ghost use Rattle.hs_trees.specs.Answers.{Answers};
 ghost use Rattle.hs_trees.specs.Types.{type_form, btype_form, atype_form, parts_form, depth_of_type, depth_of_btype, depth_of_atype, depth_of_parts};
-ghost use Rattle.hs_trees.specs.declared.terminal.Terminal.TheVariants.{LeftParen, LeftBracket};
+ghost use Rattle.hs_tokens.specs.declared.terminal.Terminal.TheVariants.{LeftParen, LeftBracket};
 
 use crate::leaf::{after_arrow, after_comma, after_right_bracket, after_right_paren, begins_atype};
 use crate::limit::{allows, lower};
 use crate::tuple_name::read_tuple_name;
 use bp_base::Name;
-use hs_trees::{ATypeTree, BTypeTree, Fault, Terminal, TypeTree};
+use hs_tokens::Terminal;
+use hs_trees::{ATypeTree, BTypeTree, Fault, TypeTree};
 use sqlite_items::{Boxed, Items};
 use std::alloc::Global;
 

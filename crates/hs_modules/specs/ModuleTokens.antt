@@ -3,7 +3,8 @@ use Rattle.std.specs.Prelude.{ℕ, Bool, true, false, Option, Some, None, List, 
 use Rattle.hs_trees.specs.Types.{spelling_type, spelling_btype, spelling_atype}
 use Rattle.hs_trees.specs.Kinds.{spelling_kind}
 use Rattle.hs_trees.specs.Patterns.{Ts, var_tokens, between_commas}
-use Rattle.hs_trees.specs.declared.terminal.Terminal.TheVariants as t
+use Rattle.hs_tokens.specs.declared.terminal.Terminal.TheVariants as t
+use Rattle.hs_tokens.specs.declared.word.Word.TheVariants as w
 use Rattle.hs_modules.specs.Words.{qvar_tokens, con_tokens, conop_tokens}
 use Rattle.hs_modules.specs.Tokens.{block_tokens, spelling_decl}
 use Rattle.hs_modules.specs.declared.declarations.ConstrSide.{ConstrSide}
@@ -59,7 +60,7 @@ abbrev pub export_tokens : ExportTree → Ts
 export_tokens (v_export.Var name) = qvar_tokens name
 export_tokens (v_export.Type name) = t.Con name ∷ []
 export_tokens (v_export.TypeWith name subs) = t.Con name ∷ subs_tokens subs
-export_tokens (v_export.Module name) = t.Word (codes "module") ∷ t.Con name ∷ []
+export_tokens (v_export.Module name) = t.Word w.Module ∷ t.Con name ∷ []
 
 abbrev pub exports_tokens : ExportsTree → Ts
 exports_tokens e = listed (map export_tokens e.exports) e.trailing
@@ -75,7 +76,7 @@ import_list_tokens (v_list.Only items trailing) = listed (map item_tokens items)
 import_list_tokens (v_list.Hiding items trailing) = t.Var (codes "hiding") ∷ listed (map item_tokens items) trailing
 
 abbrev pub import_tokens : ImpDeclTree → Ts
-import_tokens i = t.Word (codes "import") ∷ (qualified i.qualified ++ t.Con i.modid ∷ (alias i.alias ++ import_list_tokens i.list)) where
+import_tokens i = t.Word w.Import ∷ (qualified i.qualified ++ t.Con i.modid ∷ (alias i.alias ++ import_list_tokens i.list)) where
   qualified : Bool → Ts
   qualified true = t.Var (codes "qualified") ∷ []
   qualified false = []
@@ -106,17 +107,17 @@ abbrev pub head_tokens : List ℕ → List (List ℕ) → Ts
 head_tokens name params = t.Con name ∷ map (λ param. t.Var param) params
 
 abbrev pub top_decl_tokens : TopDeclTree → Ts
-top_decl_tokens (v_top.EmptyData name params) = t.Word (codes "data") ∷ head_tokens name params
+top_decl_tokens (v_top.EmptyData name params) = t.Word w.Data ∷ head_tokens name params
 top_decl_tokens (v_top.Data name params first rest) =
-    t.Word (codes "data") ∷ (head_tokens name params ++ t.Equals ∷ (constr_tokens first ++ flat_map (λ constr. t.Bar ∷ constr_tokens constr) rest))
+    t.Word w.Data ∷ (head_tokens name params ++ t.Equals ∷ (constr_tokens first ++ flat_map (λ constr. t.Bar ∷ constr_tokens constr) rest))
 top_decl_tokens (v_top.Newtype name params con atype) =
-    t.Word (codes "newtype") ∷ (head_tokens name params ++ t.Equals ∷ (con_tokens con ++ spelling_atype atype))
-top_decl_tokens (v_top.Synonym name params ty) = t.Word (codes "type") ∷ (head_tokens name params ++ t.Equals ∷ spelling_type ty)
+    t.Word w.Newtype ∷ (head_tokens name params ++ t.Equals ∷ (con_tokens con ++ spelling_atype atype))
+top_decl_tokens (v_top.Synonym name params ty) = t.Word w.Type ∷ (head_tokens name params ++ t.Equals ∷ spelling_type ty)
 top_decl_tokens (v_top.Decl decl) = spelling_decl decl
 
 abbrev pub sig_decl_tokens : SigDeclTree → Ts
 sig_decl_tokens (v_sig.Top decl) = top_decl_tokens decl
-sig_decl_tokens (v_sig.Kinded name kind) = t.Word (codes "data") ∷ t.Con name ∷ t.DoubleColon ∷ spelling_kind kind
+sig_decl_tokens (v_sig.Kinded name kind) = t.Word w.Data ∷ t.Con name ∷ t.DoubleColon ∷ spelling_kind kind
 
 abbrev pub top_slot_tokens : TopSlot → Ts
 top_slot_tokens v_top_slot.Empty = []
@@ -136,7 +137,7 @@ sig_block_tokens b = block_tokens (sig_slot_tokens b.first) (map sig_slot_tokens
 
 abbrev pub module_tokens : Module → Ts
 module_tokens (v_module.Headless block) = top_block_tokens block
-module_tokens (v_module.Named name block) = t.Word (codes "module") ∷ t.Con name ∷ t.Word (codes "where") ∷ top_block_tokens block
+module_tokens (v_module.Named name block) = t.Word w.Module ∷ t.Con name ∷ t.Word w.Where ∷ top_block_tokens block
 module_tokens (v_module.Exporting name exports block) =
-    t.Word (codes "module") ∷ t.Con name ∷ (exports_tokens exports ++ t.Word (codes "where") ∷ top_block_tokens block)
-module_tokens (v_module.Signature name block) = t.Var (codes "signature") ∷ t.Con name ∷ t.Word (codes "where") ∷ sig_block_tokens block
+    t.Word w.Module ∷ t.Con name ∷ (exports_tokens exports ++ t.Word w.Where ∷ top_block_tokens block)
+module_tokens (v_module.Signature name block) = t.Var (codes "signature") ∷ t.Con name ∷ t.Word w.Where ∷ sig_block_tokens block

@@ -1,11 +1,12 @@
 -- The tokens of a tree of expressions and declarations, from those of its parts (Haskell 2010 Report, chapters 3 and 4). A block's braces and semicolons are those that
 -- layout made or the source has.
 use Rattle.std.specs.Prelude.{ℕ, Bool, true, false, Option, Some, None, List, [], ◌∷◌, ◌++◌, codes, flat_map}
-use Rattle.hs_trees.specs.Terminals.{minus}
+use Rattle.hs_tokens.specs.Terminals.{minus}
 use Rattle.hs_trees.specs.Types.{spelling_type}
 use Rattle.hs_trees.specs.Patterns.{Ts, literal_token, var_tokens, gcon_tokens, between_commas, spelling_apat, spelling_lpat, spelling_pat}
-use Rattle.hs_trees.specs.declared.terminal.Terminal.{Terminal}
-use Rattle.hs_trees.specs.declared.terminal.Terminal.TheVariants as t
+use Rattle.hs_tokens.specs.declared.terminal.Terminal.{Terminal}
+use Rattle.hs_tokens.specs.declared.terminal.Terminal.TheVariants as t
+use Rattle.hs_tokens.specs.declared.word.Word.TheVariants as w
 use Rattle.hs_modules.specs.declared.declarations.Fixity.{Fixity}
 use Rattle.hs_modules.specs.declared.declarations.Fixity.TheVariants as f
 use Rattle.hs_modules.specs.Words.{qvar_tokens, varop_tokens, op_tokens, qop_tokens}
@@ -72,9 +73,9 @@ decl_slot_tokens DeclSlot-F.NoDecl = []
 decl_slot_tokens (DeclSlot-F.Decl decl) = decl
 
 abbrev pub fixity_word : Fixity → Terminal
-fixity_word f.Left = t.Word (codes "infixl")
-fixity_word f.Right = t.Word (codes "infixr")
-fixity_word f.Neither = t.Word (codes "infix")
+fixity_word f.Left = t.Word w.Infixl
+fixity_word f.Right = t.Word w.Infixr
+fixity_word f.Neither = t.Word w.Infix
 
 abbrev pub level_tokens : Option (List ℕ) → Ts
 level_tokens None = []
@@ -96,7 +97,7 @@ guard_tokens (GuardTree-F.Test chain) = chain
 
 abbrev pub locals_tokens : LocalsLayer Ts Ts → Ts
 locals_tokens Locals-F.Absent = []
-locals_tokens (Locals-F.Where block) = t.Word (codes "where") ∷ block
+locals_tokens (Locals-F.Where block) = t.Word w.Where ∷ block
 
 abbrev pub operand_tokens : OperandTreeLayer Ts Ts → Ts
 operand_tokens (OperandTree-F.Lambda part) = part
@@ -127,14 +128,14 @@ token_algebra = record {
   of_rhs_body = rhs_body_tokens;
   of_alt_block = λ b. block_tokens b.first b.rest;
   of_alt = λ a. spelling_pat a.pat ++ (a.body ++ a.locals);
-  of_case = λ c. t.Word (codes "case") ∷ (c.scrutinee ++ t.Word (codes "of") ∷ c.alts);
+  of_case = λ c. t.Word w.Case ∷ (c.scrutinee ++ t.Word w.Of ∷ c.alts);
   of_decl_block = λ b. block_tokens b.first b.rest;
   of_gd = λ g. t.Bar ∷ (between_commas g.first g.rest ++ t.Equals ∷ g.exp);
   of_gda = λ g. t.Bar ∷ (between_commas g.first g.rest ++ t.Arrow ∷ g.exp);
-  of_if = λ i. t.Word (codes "if") ∷ (i.test ++ t.Word (codes "then") ∷ (i.then_part ++ t.Word (codes "else") ∷ i.else_part));
+  of_if = λ i. t.Word w.If ∷ (i.test ++ t.Word w.Then ∷ (i.then_part ++ t.Word w.Else ∷ i.else_part));
   of_infix = λ x. x.first ++ joined x.rest;
   of_lambda = λ l. t.Backslash ∷ ((spelling_apat l.first ++ flat_map spelling_apat l.rest) ++ t.Arrow ∷ l.body);
-  of_let = λ l. t.Word (codes "let") ∷ (l.decls ++ t.Word (codes "in") ∷ l.body);
+  of_let = λ l. t.Word w.Let ∷ (l.decls ++ t.Word w.In ∷ l.body);
   of_link = λ o. qop_tokens o.op ++ o.operand;
   of_rhs = λ r. r.body ++ r.locals;
   of_signed = λ s. sign_tokens s.negated ++ s.operand;

@@ -1,10 +1,10 @@
 -- The tokens of names and operators (Haskell 2010 Report, section 3.2), and which of them are not qualified.
 use Rattle.std.specs.Prelude.{ℕ, Bool, true, false, not, ◌||◌, nat_eq, List, [], ◌∷◌}
 use Rattle.std.specs.Str.{bytes_eq}
-use Rattle.hs_trees.specs.Terminals.{minus}
+use Rattle.hs_tokens.specs.Terminals.{minus}
 use Rattle.hs_trees.specs.Patterns.{Ts, qconop_tokens}
-use Rattle.hs_trees.specs.declared.terminal.Terminal.{Terminal}
-use Rattle.hs_trees.specs.declared.terminal.Terminal.TheVariants as t
+use Rattle.hs_tokens.specs.declared.terminal.Terminal.{Terminal}
+use Rattle.hs_tokens.specs.declared.terminal.Terminal.TheVariants as t
 use Rattle.hs_modules.specs.declared.names.QVarTree.{QVarTree}
 use Rattle.hs_modules.specs.declared.names.QVarTree.TheVariants as q
 use Rattle.hs_modules.specs.declared.names.ConTree.{ConTree}

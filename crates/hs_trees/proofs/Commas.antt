@@ -4,9 +4,9 @@ use Rattle.std.specs.Prelude.{replicate}
 use Rattle.hs_trees.specs.Reading.{begins, Reads, Refuses}
 use Rattle.hs_trees.specs.Answers.{Accepts}
 use Rattle.hs_trees.specs.Types.{tuple_name_form}
-use Rattle.hs_trees.specs.Terminals.{is_comma, is_right_paren}
-use Rattle.hs_trees.specs.declared.terminal.Terminal.{Terminal}
-use Rattle.hs_trees.specs.declared.terminal.Terminal.TheVariants as t
+use Rattle.hs_tokens.specs.Terminals.{is_comma, is_right_paren}
+use Rattle.hs_tokens.specs.declared.terminal.Terminal.{Terminal}
+use Rattle.hs_tokens.specs.declared.terminal.Terminal.TheVariants as t
 use Rattle.hs_trees.proofs.Forms.{begins_same}
 
 abbrev pub name : ℕ → List Terminal

@@ -5,10 +5,10 @@ use Rattle.std.proofs.lemmas.Slice.Eq.{bytes_eq-Decides}
 use Rattle.std.proofs.lemmas.List.Folds.{flat_map-map}
 use Rattle.hs_trees.specs.Reading.{Form, SameStart, begins, Reads}
 use Rattle.hs_trees.specs.Answers.{Within, lowered, deepest, Accepts, Rejects, Fails}
-use Rattle.hs_trees.specs.Terminals.{is_arrow, is_star, is_right_paren, star}
+use Rattle.hs_tokens.specs.Terminals.{is_arrow, is_star, is_right_paren, star}
 use Rattle.hs_trees.specs.Kinds.{Ts, akind_tokens, kind_tokens, akind_depth, kind_depth, spelling_akind, spelling_kind, depth_of_akind, depth_of_kind, is_left_paren, starts_akind, akind_form, kind_form}
-use Rattle.hs_trees.specs.declared.terminal.Terminal.{Terminal}
-use Rattle.hs_trees.specs.declared.terminal.Terminal.TheVariants as t
+use Rattle.hs_tokens.specs.declared.terminal.Terminal.{Terminal}
+use Rattle.hs_tokens.specs.declared.terminal.Terminal.TheVariants as t
 use Rattle.hs_trees.specs.declared.fault.Fault.{Fault}
 use Rattle.hs_trees.specs.declared.types.AKindTree.{AKindTree, AKindTree-F, out-AKindTree, roll-AKindTree, roll-out-AKindTree, fold-roll-AKindTree, map-AKindTree}
 use Rattle.hs_trees.specs.declared.types.AKindTree.TheVariants as a

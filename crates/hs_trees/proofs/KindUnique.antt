@@ -3,9 +3,9 @@ use Rattle.std.proofs.Common.{◌≡◌, ℕ, zero, suc, ◌+◌, ◌≤◌, fal
 use Rattle.std.specs.Prelude.{flat_map, None}
 use Rattle.hs_trees.specs.Reading.{begins, Reads}
 use Rattle.hs_trees.specs.Whole.{Spells}
-use Rattle.hs_trees.specs.Terminals.{is_arrow, star}
+use Rattle.hs_tokens.specs.Terminals.{is_arrow, star}
 use Rattle.hs_trees.specs.Kinds.{Ts, spelling_akind, spelling_kind, starts_akind, akind_form, kind_form}
-use Rattle.hs_trees.specs.declared.terminal.Terminal.TheVariants as t
+use Rattle.hs_tokens.specs.declared.terminal.Terminal.TheVariants as t
 use Rattle.hs_trees.specs.declared.types.AKindTree.{AKindTree, AKindTree-F, out-AKindTree, roll-AKindTree, roll-out-AKindTree}
 use Rattle.hs_trees.specs.declared.types.AKindTree.TheVariants as a
 use Rattle.hs_trees.specs.declared.types.KindTree.{KindTree, out-KindTree, roll-KindTree, roll-out-KindTree}

@@ -5,11 +5,11 @@ use Rattle.std.proofs.lemmas.List.{append-nil}
 use Rattle.std.proofs.lemmas.Bool.Decides.{nat_tests}
 use Rattle.hs_trees.specs.Reading.{SameStart, begins, Reads, Refuses}
 use Rattle.hs_trees.specs.Answers.{Within, lowered, Accepts, Rejects, Fails}
-use Rattle.hs_trees.specs.Terminals.{is_at, is_comma, is_integer, is_right_paren, is_con}
+use Rattle.hs_tokens.specs.Terminals.{is_at, is_comma, is_integer, is_right_paren, is_con}
 use Rattle.hs_trees.specs.Types.{tuple_name_form}
 use Rattle.hs_trees.specs.Patterns.{Ts, literal_token, var_tokens, gcon_tokens, spelling_apat, is_gcon, is_apat, depth_of_apat, starts_apat, starts_pat, opens_name, apat_form, Pats}
-use Rattle.hs_trees.specs.declared.terminal.Terminal.{Terminal}
-use Rattle.hs_trees.specs.declared.terminal.Terminal.TheVariants as t
+use Rattle.hs_tokens.specs.declared.terminal.Terminal.{Terminal}
+use Rattle.hs_tokens.specs.declared.terminal.Terminal.TheVariants as t
 use Rattle.hs_trees.specs.declared.fault.Fault.{Fault}
 use Rattle.hs_trees.specs.declared.patterns.LiteralTree.{LiteralTree}
 use Rattle.hs_trees.specs.declared.patterns.LiteralTree.TheVariants as l

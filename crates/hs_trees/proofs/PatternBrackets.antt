@@ -7,10 +7,10 @@ use Rattle.std.proofs.lemmas.List.{append-nil}
 use Rattle.std.proofs.lemmas.Bool.Decides.{nat_tests}
 use Rattle.hs_trees.specs.Reading.{Form, SameStart, begins, Reads, Refuses}
 use Rattle.hs_trees.specs.Answers.{Within, lowered, Accepts, Rejects, Fails}
-use Rattle.hs_trees.specs.Terminals.{is_right_paren, is_right_bracket, minus}
+use Rattle.hs_tokens.specs.Terminals.{is_right_paren, is_right_bracket, minus}
 use Rattle.hs_trees.specs.Patterns.{Ts, spelling_apat, spelling_pat, spelling_lpat, is_pat, is_lpat, depth_of_apat, depth_of_pat, depth_of_lpat, starts_pat, opens_name, opens_pat, apat_form, Pats, pats_form, spelling_pats, depth_of_pats}
-use Rattle.hs_trees.specs.declared.terminal.Terminal.{Terminal}
-use Rattle.hs_trees.specs.declared.terminal.Terminal.TheVariants as t
+use Rattle.hs_tokens.specs.declared.terminal.Terminal.{Terminal}
+use Rattle.hs_tokens.specs.declared.terminal.Terminal.TheVariants as t
 use Rattle.hs_trees.specs.declared.fault.Fault.{Fault}
 use Rattle.hs_trees.specs.declared.patterns.GConTree.TheVariants as g
 use Rattle.hs_trees.specs.declared.patterns.PatTree.{PatTree}

@@ -5,10 +5,10 @@ use Rattle.std.proofs.lemmas.List.Folds.{flat_map-map}
 use Rattle.std.proofs.lemmas.Bool.Decides.{nat_tests}
 use Rattle.hs_trees.specs.Reading.{begins}
 use Rattle.hs_trees.specs.Answers.{all_of}
-use Rattle.hs_trees.specs.Terminals.{is_con}
+use Rattle.hs_tokens.specs.Terminals.{is_con}
 use Rattle.hs_trees.specs.Patterns.{Ts, var_tokens, gcon_tokens, spelling_apat, spelling_pat, is_gcon, is_apat, is_pat, depth_of_apat, Pats, spelling_pats, depth_of_pats, starts_pat}
-use Rattle.hs_trees.specs.declared.terminal.Terminal.{Terminal}
-use Rattle.hs_trees.specs.declared.terminal.Terminal.TheVariants as t
+use Rattle.hs_tokens.specs.declared.terminal.Terminal.{Terminal}
+use Rattle.hs_tokens.specs.declared.terminal.Terminal.TheVariants as t
 use Rattle.hs_trees.specs.declared.patterns.LiteralTree.{LiteralTree}
 use Rattle.hs_trees.specs.declared.patterns.LiteralTree.TheVariants as l
 use Rattle.hs_trees.specs.declared.patterns.VarTree.{VarTree}

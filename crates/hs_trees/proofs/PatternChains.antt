@@ -2,10 +2,10 @@
 use Rattle.std.proofs.Common.{◌≡◌, ℕ, ◌+◌, true, false, List, [], ◌∷◌, ◌++◌, length, refl, sym, ◌∙◌, subst, true≢false, arith, length-append}
 use Rattle.std.specs.Prelude.{map, max, ◌||◌, Option}
 use Rattle.hs_trees.specs.Answers.{Within, lowered, deepest}
-use Rattle.hs_trees.specs.Terminals.{is_at, is_comma, starts_qconop}
+use Rattle.hs_tokens.specs.Terminals.{is_at, is_comma, starts_qconop}
 use Rattle.hs_trees.specs.Patterns.{Ts, starts_apat, spelling_apat, spelling_op, spelling_pat, depth_of_apat, depth_of_lpat, depth_of_op, depth_of_pat, is_apat, is_lpat, is_op, is_pat, APats, apat_form, apats_form, lpat_form, pat_form, Few, Pats, pats_form}
-use Rattle.hs_trees.specs.declared.terminal.Terminal.{Terminal}
-use Rattle.hs_trees.specs.declared.terminal.Terminal.TheVariants as t
+use Rattle.hs_tokens.specs.declared.terminal.Terminal.{Terminal}
+use Rattle.hs_tokens.specs.declared.terminal.Terminal.TheVariants as t
 use Rattle.hs_trees.specs.declared.patterns.APatTree.{APatTree}
 use Rattle.hs_trees.specs.declared.patterns.LPatTree.{LPatTree}
 use Rattle.hs_trees.specs.declared.patterns.OpLPat.{OpLPat}

@@ -4,7 +4,7 @@ use Rattle.std.specs.Prelude.{flat_map, map, replicate, not}
 use Rattle.hs_trees.specs.Reading.{begins}
 use Rattle.hs_trees.specs.Hits.{hits, Passes, follows_guard}
 use Rattle.hs_trees.specs.Patterns.{Ts, between_commas, var_tokens, gcon_tokens, qconop_tokens, literal_token, apat_tokens, lpat_tokens, op_tokens, pat_tokens, spelling_apat, spelling_lpat, spelling_op, spelling_pat}
-use Rattle.hs_trees.specs.declared.terminal.Terminal.TheVariants as t
+use Rattle.hs_tokens.specs.declared.terminal.Terminal.TheVariants as t
 use Rattle.hs_trees.specs.declared.patterns.LiteralTree.{LiteralTree}
 use Rattle.hs_trees.specs.declared.patterns.LiteralTree.TheVariants as l
 use Rattle.hs_trees.specs.declared.patterns.VarTree.{VarTree}

@@ -5,10 +5,10 @@ use Rattle.std.proofs.lemmas.Slice.Eq.{bytes_eq-Decides}
 use Rattle.std.proofs.lemmas.List.Folds.{flat_map-map}
 use Rattle.hs_trees.specs.Reading.{SameStart, begins, Reads, Refuses}
 use Rattle.hs_trees.specs.Answers.{Within, Accepts, Rejects, Fails}
-use Rattle.hs_trees.specs.Terminals.{is_at, is_integer, is_minus, minus}
+use Rattle.hs_tokens.specs.Terminals.{is_at, is_integer, is_minus, minus}
 use Rattle.hs_trees.specs.Patterns.{Ts, gcon_tokens, spelling_apat, spelling_lpat, is_gcon, is_apat, is_lpat, depth_of_apat, depth_of_lpat, starts_apat, APats, spelling_apats, depth_of_apats, are_apats, apat_form, apats_form, lpat_form}
-use Rattle.hs_trees.specs.declared.terminal.Terminal.{Terminal}
-use Rattle.hs_trees.specs.declared.terminal.Terminal.TheVariants as t
+use Rattle.hs_tokens.specs.declared.terminal.Terminal.{Terminal}
+use Rattle.hs_tokens.specs.declared.terminal.Terminal.TheVariants as t
 use Rattle.hs_trees.specs.declared.fault.Fault.{Fault}
 use Rattle.hs_trees.specs.declared.patterns.GConTree.{GConTree}
 use Rattle.hs_trees.specs.declared.patterns.LPatTree.{LPatTree, LPatTree-F, out-LPatTree, roll-LPatTree, roll-out-LPatTree}

@@ -4,9 +4,9 @@ use Rattle.std.specs.Prelude.{flat_map, map, max, ◌&&◌}
 use Rattle.std.proofs.lemmas.List.Folds.{flat_map-map}
 use Rattle.hs_trees.specs.Reading.{begins}
 use Rattle.hs_trees.specs.Answers.{deepest, all_of}
-use Rattle.hs_trees.specs.Terminals.{starts_qconop}
+use Rattle.hs_tokens.specs.Terminals.{starts_qconop}
 use Rattle.hs_trees.specs.Patterns.{Ts, var_tokens, gcon_tokens, literal_token, qconop_tokens, apat_tokens, lpat_tokens, op_tokens, pat_tokens, spelling_apat, spelling_lpat, spelling_op, spelling_pat, apat_formed, lpat_formed, op_formed, pat_formed, is_apat, is_lpat, is_op, is_pat, apat_depth, lpat_depth, op_depth, pat_depth, depth_of_apat, depth_of_lpat, depth_of_op, depth_of_pat, starts_apat, starts_pat}
-use Rattle.hs_trees.specs.declared.terminal.Terminal.TheVariants as t
+use Rattle.hs_tokens.specs.declared.terminal.Terminal.TheVariants as t
 use Rattle.hs_trees.specs.declared.patterns.LiteralTree.{LiteralTree}
 use Rattle.hs_trees.specs.declared.patterns.LiteralTree.TheVariants as l
 use Rattle.hs_trees.specs.declared.patterns.VarTree.{VarTree}

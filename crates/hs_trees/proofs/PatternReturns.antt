@@ -3,10 +3,10 @@ use Rattle.std.proofs.Common.{◌≡◌, ℕ, ◌+◌, ◌<◌, Bool, true, fals
 use Rattle.std.specs.Prelude.{map, max, not, ◌||◌, Option}
 use Rattle.hs_trees.specs.Reading.{Form, begins, Reads, Refuses}
 use Rattle.hs_trees.specs.Answers.{Within, lowered, deepest, Accepts, Rejects, Fails}
-use Rattle.hs_trees.specs.Terminals.{is_at, is_comma, is_con, is_backquote, is_minus, starts_qconop}
+use Rattle.hs_tokens.specs.Terminals.{is_at, is_comma, is_con, is_backquote, is_minus, starts_qconop}
 use Rattle.hs_trees.specs.Patterns.{Ts, qconop_tokens, spelling_lpat, spelling_op, is_lpat, depth_of_apat, depth_of_lpat, depth_of_op, depth_of_pat, starts_apat, starts_lpat, starts_pat, opens_name, opens_pat, depth_of_apats, depth_of_pats, apat_form, apats_form, lpat_form, pat_form, pats_form, qconop_form}
-use Rattle.hs_trees.specs.declared.terminal.Terminal.{Terminal}
-use Rattle.hs_trees.specs.declared.terminal.Terminal.TheVariants as t
+use Rattle.hs_tokens.specs.declared.terminal.Terminal.{Terminal}
+use Rattle.hs_tokens.specs.declared.terminal.Terminal.TheVariants as t
 use Rattle.hs_trees.specs.declared.fault.Fault.{Fault}
 use Rattle.hs_trees.specs.declared.patterns.QConOpTree.{QConOpTree}
 use Rattle.hs_trees.specs.declared.patterns.QConOpTree.TheVariants as o

@@ -5,9 +5,9 @@ use Rattle.std.proofs.lemmas.Bool.Decides.{nat_tests}
 use Rattle.hs_trees.specs.Reading.{begins, Reads}
 use Rattle.hs_trees.specs.Answers.{Within}
 use Rattle.hs_trees.specs.Whole.{Spells}
-use Rattle.hs_trees.specs.Terminals.{is_at, is_comma, starts_qconop, minus}
+use Rattle.hs_tokens.specs.Terminals.{is_at, is_comma, starts_qconop, minus}
 use Rattle.hs_trees.specs.Patterns.{Ts, gcon_tokens, qconop_tokens, var_tokens, literal_token, spelling_apat, spelling_lpat, spelling_op, spelling_pat, is_gcon, is_apat, is_lpat, is_op, is_pat, starts_apat, APats, spelling_apats, are_apats, Pats, spelling_pats, apat_form, apats_form, lpat_form, pat_form, pats_form}
-use Rattle.hs_trees.specs.declared.terminal.Terminal.TheVariants as t
+use Rattle.hs_tokens.specs.declared.terminal.Terminal.TheVariants as t
 use Rattle.hs_trees.specs.declared.patterns.GConTree.{GConTree}
 use Rattle.hs_trees.specs.declared.patterns.GConTree.TheVariants as g
 use Rattle.hs_trees.specs.declared.patterns.APatTree.{APatTree, APatTree-F, out-APatTree, roll-APatTree, roll-out-APatTree}

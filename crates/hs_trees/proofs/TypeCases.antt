@@ -6,8 +6,8 @@ use Rattle.std.proofs.lemmas.Bool.Decides.{nat_tests}
 use Rattle.hs_trees.specs.Reading.{Reads}
 use Rattle.hs_trees.specs.Answers.{Within, all_of}
 use Rattle.hs_trees.specs.Types.{atype_tokens, spelling_atype, spelling_btype, spelling_type, depth_of_atype, depth_of_type, is_atype, is_type, Parts, spelling_parts, depth_of_parts, are_parts, atype_form}
-use Rattle.hs_trees.specs.declared.terminal.Terminal.{Terminal}
-use Rattle.hs_trees.specs.declared.terminal.Terminal.TheVariants as t
+use Rattle.hs_tokens.specs.declared.terminal.Terminal.{Terminal}
+use Rattle.hs_tokens.specs.declared.terminal.Terminal.TheVariants as t
 use Rattle.hs_trees.specs.declared.types.ATypeTree.{ATypeTree, ATypeTree-F, out-ATypeTree, roll-ATypeTree, roll-out-ATypeTree, map-ATypeTree}
 use Rattle.hs_trees.specs.declared.types.ATypeTree.TheVariants as a
 use Rattle.hs_trees.specs.declared.types.TypeTree.{TypeTree}

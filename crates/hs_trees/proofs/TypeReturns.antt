@@ -6,9 +6,9 @@ use Rattle.std.specs.Prelude.{map, max, nat_lt, Option}
 use Rattle.hs_trees.specs.Reading.{begins, Reads}
 use Rattle.hs_trees.specs.Answers.{Within, lowered, Accepts, Rejects, Fails, deepest}
 use Rattle.hs_trees.specs.Types.{starts_atype, spelling_atype, spelling_type, depth_of_atype, depth_of_btype, depth_of_type, depth_of_parts, Parts, atype_form, btype_form, type_form, parts_form, tuple_name_form}
-use Rattle.hs_trees.specs.Terminals.{is_arrow, is_comma, is_right_paren, is_right_bracket}
-use Rattle.hs_trees.specs.declared.terminal.Terminal.{Terminal}
-use Rattle.hs_trees.specs.declared.terminal.Terminal.TheVariants as t
+use Rattle.hs_tokens.specs.Terminals.{is_arrow, is_comma, is_right_paren, is_right_bracket}
+use Rattle.hs_tokens.specs.declared.terminal.Terminal.{Terminal}
+use Rattle.hs_tokens.specs.declared.terminal.Terminal.TheVariants as t
 use Rattle.hs_trees.specs.declared.fault.Fault.{Fault}
 use Rattle.hs_trees.specs.declared.types.ATypeTree.{ATypeTree, ATypeTree-F}
 use Rattle.hs_trees.specs.declared.types.ATypeTree.TheVariants as a

@@ -2,9 +2,9 @@
 use Rattle.std.specs.Prelude.{ℕ, ◌+◌, max, Bool, true, false, List, [], ◌∷◌, ◌++◌, length, flat_map, Option}
 use Rattle.hs_trees.specs.Reading.{Form}
 use Rattle.hs_trees.specs.Answers.{Within, deepest}
-use Rattle.hs_trees.specs.Terminals.{is_arrow, is_star, star}
-use Rattle.hs_trees.specs.declared.terminal.Terminal.{Terminal}
-use Rattle.hs_trees.specs.declared.terminal.Terminal.TheVariants as t
+use Rattle.hs_tokens.specs.Terminals.{is_arrow, is_star, star}
+use Rattle.hs_tokens.specs.declared.terminal.Terminal.{Terminal}
+use Rattle.hs_tokens.specs.declared.terminal.Terminal.TheVariants as t
 use Rattle.hs_trees.specs.declared.types.AKindTree.{AKindTree, AKindTree-F, fold-AKindTree}
 use Rattle.hs_trees.specs.declared.types.KindTree.{KindTree, KindTree-F, fold-KindTree}
 

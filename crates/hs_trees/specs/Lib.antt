@@ -1,7 +1,6 @@
 pub mod Reading
 pub mod Answers
 pub mod Whole
-pub mod Terminals
 pub mod Types
 pub mod Patterns
 pub mod Kinds

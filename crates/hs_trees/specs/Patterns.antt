@@ -3,9 +3,9 @@ use Rattle.std.specs.Prelude.{◌≡◌, ℕ, ◌+◌, max, Bool, true, false, n
 use Rattle.std.specs.Str.{bytes_eq}
 use Rattle.hs_trees.specs.Reading.{Form, begins}
 use Rattle.hs_trees.specs.Answers.{Within, deepest, all_of}
-use Rattle.hs_trees.specs.Terminals.{is_at, is_comma, is_minus, starts_qconop, minus}
-use Rattle.hs_trees.specs.declared.terminal.Terminal.{Terminal}
-use Rattle.hs_trees.specs.declared.terminal.Terminal.TheVariants as t
+use Rattle.hs_tokens.specs.Terminals.{is_at, is_comma, is_minus, starts_qconop, minus}
+use Rattle.hs_tokens.specs.declared.terminal.Terminal.{Terminal}
+use Rattle.hs_tokens.specs.declared.terminal.Terminal.TheVariants as t
 use Rattle.hs_trees.specs.declared.patterns.LiteralTree.{LiteralTree}
 use Rattle.hs_trees.specs.declared.patterns.LiteralTree.TheVariants as l
 use Rattle.hs_trees.specs.declared.patterns.VarTree.{VarTree}

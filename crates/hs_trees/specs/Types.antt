@@ -2,9 +2,9 @@
 use Rattle.std.specs.Prelude.{◌≡◌, ℕ, ◌+◌, ◌<◌, max, Bool, true, false, ◌&&◌, ◌||◌, nat_lt, List, [], ◌∷◌, ◌++◌, length, flat_map, replicate, map, Option}
 use Rattle.hs_trees.specs.Reading.{Form}
 use Rattle.hs_trees.specs.Answers.{Within, deepest, all_of}
-use Rattle.hs_trees.specs.Terminals.{is_arrow, is_comma}
-use Rattle.hs_trees.specs.declared.terminal.Terminal.{Terminal}
-use Rattle.hs_trees.specs.declared.terminal.Terminal.TheVariants as t
+use Rattle.hs_tokens.specs.Terminals.{is_arrow, is_comma}
+use Rattle.hs_tokens.specs.declared.terminal.Terminal.{Terminal}
+use Rattle.hs_tokens.specs.declared.terminal.Terminal.TheVariants as t
 use Rattle.hs_trees.specs.declared.types.ATypeTree.{ATypeTree, ATypeTree-F, fold-ATypeTree}
 use Rattle.hs_trees.specs.declared.types.BTypeTree.{BTypeTree, BTypeTree-F, fold-BTypeTree}
 use Rattle.hs_trees.specs.declared.types.TypeTree.{TypeTree, TypeTree-F, fold-TypeTree}

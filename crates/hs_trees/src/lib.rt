@@ -1,10 +1,9 @@
-//! Terminals of Haskell's grammar, surface trees, and what it means to read trees from the front of a list.
+//! Surface trees of Haskell sources, and what it means to read trees from the front of a list.
 #![tactic(auto)]
 
 mod error;
 mod fault;
 mod patterns;
-mod terminal;
 mod types;
 
 pub use error::ParseError;
@@ -12,5 +11,4 @@ pub use fault::Fault;
 pub use patterns::{
     APatTree, GConTree, LPatTree, LiteralTree, OpLPat, PatTree, QConOpTree, VarTree,
 };
-pub use terminal::{Terminal, Terminals, terminal_of, terminals_of};
 pub use types::{AKindTree, ATypeTree, BTypeTree, KindTree, TypeTree};

@@ -4,12 +4,12 @@ use Rattle.std.proofs.lemmas.Result.{err_from_is_err_and}
 use Rattle.hs_trees.specs.Reading.{begins}
 use Rattle.hs_trees.specs.Answers.{Within, lowered, Accepts, Rejects}
 use Rattle.hs_trees.specs.Patterns.{starts_apat, opens_name, apat_form, depth_of_apat}
-use Rattle.hs_trees.specs.Terminals.{is_comma}
+use Rattle.hs_tokens.specs.Terminals.{is_comma}
 use Rattle.hs_trees.proofs.PatternAtoms.{unit_ok, sym_ok, colon_ok, tuple_ok, name_ok, name_over, as_fails, as_ok, lazy_fails, lazy_ok, lazy_over, none_here, colon_none, sym_none, tuple_fails, op_none, minus_over, paren_over, paren_end}
 use Rattle.hs_trees.proofs.PatternBrackets.{inside_fails, inside_ok, inside_none, nil_ok, bracket_over, list_fails, list_ok, list_none}
 use Rattle.hs_trees.proofs.PatternLPats.{minus_none, apat_fails, alone_ok, applied_ok, args_fail}
 use Rattle.hs_trees.proofs.PatternReturns.{pat_head_fails, pat_first, pat_over, pat_op_fails, pat_fails, pat_step, pat_stop, apats_head_fails, apats_first, apats_step, apats_fails, apats_stop, pats_head_fails, pats_first, pats_step, pats_fails, pats_over, pats_stop, no_apat, no_opening, empty_begins}
-use Rattle.hs_trees.specs.declared.terminal.Terminal.TheVariants.{Tilde}
+use Rattle.hs_tokens.specs.declared.terminal.Terminal.TheVariants.{Tilde}
 use Rattle.haskell_parse.proofs.patterns.+patterns.Goals as goal
 use Rattle.haskell_parse.proofs.patterns.+patterns.Goals.{read_paren-then-not-starts_pat-via-then-not-starts_pat, read_paren-then-not-starts_pat-via-else-not-starts_pat+then-not-allows}
 

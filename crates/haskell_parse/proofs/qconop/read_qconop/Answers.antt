@@ -1,7 +1,7 @@
 use Rattle.std.proofs.Common.{◌∙◌, ap, subst}
 use Rattle.hs_trees.specs.Reading.{begins}
 use Rattle.hs_trees.specs.Answers.{Rejects}
-use Rattle.hs_trees.specs.Terminals.{starts_qconop}
+use Rattle.hs_tokens.specs.Terminals.{starts_qconop}
 use Rattle.hs_trees.specs.Patterns.{qconop_form}
 use Rattle.hs_trees.proofs.PatternReturns.{qconop_none, no_qconop, empty_begins}
 use Rattle.haskell_parse.proofs.qconop.read_qconop.Goals as goal

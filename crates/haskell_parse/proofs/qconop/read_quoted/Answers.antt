@@ -1,5 +1,5 @@
 use Rattle.std.proofs.Common.{◌∷◌, refl}
-use Rattle.hs_trees.specs.declared.terminal.Terminal.TheVariants.{Backquote}
+use Rattle.hs_tokens.specs.declared.terminal.Terminal.TheVariants.{Backquote}
 use Rattle.hs_trees.proofs.PatternReturns.{quoted_none, quoted_open}
 use Rattle.haskell_parse.proofs.qconop.read_quoted.Goals as goal
 

@@ -1,8 +1,8 @@
 use Rattle.std.proofs.Common.{◌++◌, ◌∙◌, [], refl, ap, arith}
 use Rattle.std.specs.Prelude.{replicate}
 use Rattle.hs_trees.specs.Reading.{begins}
-use Rattle.hs_trees.specs.Terminals.{is_comma}
-use Rattle.hs_trees.specs.declared.terminal.Terminal.TheVariants as t
+use Rattle.hs_tokens.specs.Terminals.{is_comma}
+use Rattle.hs_tokens.specs.declared.terminal.Terminal.TheVariants as t
 use Rattle.hs_trees.proofs.Commas.{name_ok, name_refused, name_missed, name_over}
 use Rattle.haskell_parse.proofs.tuple_name.read_tuple_name.Goals as goal
 

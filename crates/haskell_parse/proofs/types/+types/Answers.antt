@@ -4,7 +4,7 @@ use Rattle.std.proofs.lemmas.Result.{err_from_is_err_and}
 use Rattle.hs_trees.specs.Reading.{begins}
 use Rattle.hs_trees.specs.Answers.{Within, lowered}
 use Rattle.hs_trees.specs.Types.{starts_atype}
-use Rattle.hs_trees.specs.Terminals.{is_comma}
+use Rattle.hs_tokens.specs.Terminals.{is_comma}
 use Rattle.hs_trees.proofs.TypeReturns.{btype_head_fails, btype_first, btype_step, btype_fails, btype_stop, type_head_fails, type_first, type_step, type_fails, type_over, type_stop, parts_head_fails, parts_first, parts_step, parts_fails, parts_over, parts_stop, none_here, unit_ok, arrow_ok, arrow_none, tuple_ok, tuple_fails, paren_too_deep, inner_fails, inner_ok, inner_none, bracket_too_deep, list_fails, list_ok, list_none, none_at_end, few_parts, no_start, ends_none}
 use Rattle.haskell_parse.proofs.types.+types.Goals as goal
 

@@ -1,4 +1,4 @@
-//! Worked values of `hs_trees`.
+//! Worked values of `hs_tokens`.
 #![tactic(auto)]
 
 #[cfg(test)]

@@ -1,9 +1,10 @@
 //! Tokens as the grammar sees them: what a token is, without its place.
 ghost use Rattle.std.specs.Prelude.{◌≡◌, IfOk, map};
-ghost use Rattle.hs_trees.specs.Terminals.{terminal_of, special_of, symbol_of, is_qualified};
+ghost use Rattle.hs_tokens.specs.Terminals.{terminal_of, special_of, symbol_of, reserved_of, is_reserved, is_qualified};
 
+use crate::token::{Token, TokenKind, Tokens};
+use crate::word::{Word, word_of};
 use bp_base::Bytes;
-use hs_tokens::{Token, TokenKind, Tokens};
 use sqlite_items::Items;
 use std::alloc::{AllocError, Global};
 
@@ -60,49 +61,71 @@ pub enum Terminal {
     /// `=>`
     DoubleArrow,
     /// A reserved word.
-    Word(Bytes),
+    Word(Word),
+    /// A special or reserved token with another text; a source has none.
+    Other,
 }
 
 /// Terminals in the order of the source.
 pub type Terminals = Items<Terminal>;
 
 /// What a special token is, by its one character.
-fn special(alloc: Global, text: &[u8]) -> Result<Terminal, AllocError>
-    ensures { IfOk result (λ r. r ≡ special_of text.now) }
+#[tactic(auto, unfolding(crate::specs::Terminals::special_of))]
+pub fn special_of(text: &[u8]) -> Terminal
+    ensures { result ≡ special_of text.now }
 {
     match text {
-        b"(" => Ok(Terminal::LeftParen),
-        b")" => Ok(Terminal::RightParen),
-        b"," => Ok(Terminal::Comma),
-        b";" => Ok(Terminal::Semicolon),
-        b"[" => Ok(Terminal::LeftBracket),
-        b"]" => Ok(Terminal::RightBracket),
-        b"{" => Ok(Terminal::LeftBrace),
-        b"}" => Ok(Terminal::RightBrace),
-        b"`" => Ok(Terminal::Backquote),
-        _ => Ok(Terminal::Word(Bytes::from_bytes(alloc, text)?)),
+        b"(" => Terminal::LeftParen,
+        b")" => Terminal::RightParen,
+        b"," => Terminal::Comma,
+        b";" => Terminal::Semicolon,
+        b"[" => Terminal::LeftBracket,
+        b"]" => Terminal::RightBracket,
+        b"{" => Terminal::LeftBrace,
+        b"}" => Terminal::RightBrace,
+        b"`" => Terminal::Backquote,
+        _ => Terminal::Other,
+    }
+}
+
+/// What a reserved symbol is, `_` among them.
+#[tactic(auto, unfolding(crate::specs::Terminals::symbol_of))]
+pub fn symbol_of(text: &[u8]) -> Option<Terminal>
+    ensures { result ≡ symbol_of text.now }
+{
+    match text {
+        b"_" => Some(Terminal::Underscore),
+        b":" => Some(Terminal::Colon),
+        b"->" => Some(Terminal::Arrow),
+        b"<-" => Some(Terminal::LeftArrow),
+        b"=" => Some(Terminal::Equals),
+        b"|" => Some(Terminal::Bar),
+        b"\\" => Some(Terminal::Backslash),
+        b"@" => Some(Terminal::At),
+        b"~" => Some(Terminal::Tilde),
+        b"::" => Some(Terminal::DoubleColon),
+        b".." => Some(Terminal::DotDot),
+        b"=>" => Some(Terminal::DoubleArrow),
+        _ => None,
     }
 }
 
 /// What a reserved symbol or word is.
-fn symbol(alloc: Global, text: &[u8]) -> Result<Terminal, AllocError>
-    ensures { IfOk result (λ r. r ≡ symbol_of text.now) }
+pub fn reserved_of(text: &[u8]) -> Terminal
+    ensures { result ≡ reserved_of text.now }
 {
-    match text {
-        b"_" => Ok(Terminal::Underscore),
-        b":" => Ok(Terminal::Colon),
-        b"->" => Ok(Terminal::Arrow),
-        b"<-" => Ok(Terminal::LeftArrow),
-        b"=" => Ok(Terminal::Equals),
-        b"|" => Ok(Terminal::Bar),
-        b"\\" => Ok(Terminal::Backslash),
-        b"@" => Ok(Terminal::At),
-        b"~" => Ok(Terminal::Tilde),
-        b"::" => Ok(Terminal::DoubleColon),
-        b".." => Ok(Terminal::DotDot),
-        b"=>" => Ok(Terminal::DoubleArrow),
-        _ => Ok(Terminal::Word(Bytes::from_bytes(alloc, text)?)),
+    match (symbol_of(text), word_of(text)) {
+        (Some(symbol), _) => symbol,
+        (None, Some(word)) => Terminal::Word(word),
+        (None, None) => Terminal::Other,
     }
+}
+
+/// Whether Haskell reserves the text, be it a word or a symbol.
+pub fn is_reserved(text: &[u8]) -> bool
+    ensures { result ≡ is_reserved text.now }
+{
+    symbol_of(text).is_some() || word_of(text).is_some()
 }
 
 /// Whether a variable or symbol begins with a module's name.
@@ -127,8 +150,8 @@ pub fn terminal_of(alloc: Global, token: &Token) -> Result<Terminal, AllocError>
         TokenKind::VarSym if qualified(text) => Ok(Terminal::QVarSym(token.text.copied(alloc)?)),
         TokenKind::VarSym => Ok(Terminal::VarSym(token.text.copied(alloc)?)),
         TokenKind::ConSym => Ok(Terminal::ConSym(token.text.copied(alloc)?)),
-        TokenKind::Reserved => symbol(alloc, text),
-        TokenKind::Special => special(alloc, text),
+        TokenKind::Reserved => Ok(reserved_of(text)),
+        TokenKind::Special => Ok(special_of(text)),
         TokenKind::Integer => Ok(Terminal::Integer(token.text.copied(alloc)?)),
         TokenKind::Char => Ok(Terminal::Char(token.text.copied(alloc)?)),
         TokenKind::Text => Ok(Terminal::Text(token.text.copied(alloc)?)),

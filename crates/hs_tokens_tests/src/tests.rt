@@ -1,6 +1,5 @@
-use hs_trees::*;
 use bp_base::Bytes;
-use hs_tokens::{Token, TokenKind, Tokens};
+use hs_tokens::{Terminal, Token, TokenKind, Tokens, Word, terminals_of};
 use sqlite_items::Items;
 use std::alloc::{AllocError, Global};
 use std::test::Fail;
@@ -34,7 +33,7 @@ fn terminals_of_tokens(rt: HostRuntime) -> Result<(), Fail> {
                 Terminal::QVar(_),
                 Terminal::QVarSym(_),
                 Terminal::Colon,
-                Terminal::Word(_),
+                Terminal::Word(Word::Let),
                 Terminal::LeftParen,
             ]
         )
