@@ -1,6 +1,7 @@
 -- The components of a package file are lawful.
 use Rattle.std.proofs.Common.{◌≡◌, ◌⊎◌, inl, inr, refl, sym, subst, Bool, true, false, ◌||◌, not, is_some, cond, codes, List, [], ◌∷◌, ◌++◌, map, Option, Some, None, append-nil}
 use Rattle.std.specs.List.{AllByRecursion, filter, flat_map, filter_map, cons_option}
+use Rattle.std.proofs.lemmas.Bool.{or_right}
 use Rattle.bp_base.specs.Lists.{Among, AreDistinct}
 use Rattle.bp_base.specs.Texts.{Text}
 use Rattle.cabal_text.specs.declared.lines.Line.{Line}
@@ -31,20 +32,16 @@ nil_right : {A : Type 0} (xs ys : List A) → xs ++ ys ≡ [] → ys ≡ []
 nil_right [] ys e = e
 nil_right (x ∷ xs) ys e = absurd (cc)
 
-or_true : (a b : Bool) → b ≡ true → (a || b) ≡ true
-or_true true b e = refl
-or_true false b e = e
-
 owns_other : (executable : Bool) → Owns executable (codes "other-modules")
 owns_other executable text e = rw e refl
 
 owns_exposed : Owns false (codes "exposed-modules")
-owns_exposed text e = or_true (is_word text (codes "other-modules")) (is_word text (codes "exposed-modules") || is_word text (codes "signatures")) (rw e refl)
+owns_exposed text e = or_right (is_word text (codes "other-modules")) (is_word text (codes "exposed-modules") || is_word text (codes "signatures")) (rw e refl)
 
 owns_signatures : Owns false (codes "signatures")
 owns_signatures text e =
-    or_true (is_word text (codes "other-modules")) (is_word text (codes "exposed-modules") || is_word text (codes "signatures"))
-    (or_true (is_word text (codes "exposed-modules")) (is_word text (codes "signatures")) e)
+    or_right (is_word text (codes "other-modules")) (is_word text (codes "exposed-modules") || is_word text (codes "signatures"))
+    (or_right (is_word text (codes "exposed-modules")) (is_word text (codes "signatures")) e)
 
 apart_either : (a : Text) (xs ys zs : List Text) → (Among a xs → Among a ys → ⊥) → (Among a xs → Among a zs → ⊥) → Among a xs → Among a ys ⊎ Among a zs → ⊥
 apart_either a xs ys zs f g h (inl k) = f h k

@@ -2,11 +2,6 @@
 use Rattle.std.proofs.Common.{map, ◌⊎◌, inl, inr, ◌≡◌, ◌≢◌, ℕ, Bool, true, false, cond, List, [], ◌∷◌, refl, ap, sym, ◌∙◌, subst}
 use Rattle.std.specs.Str.{bytes_eq}
 use Rattle.std.specs.Prelude.{Option, Some, None, unwrap_or}
-use Rattle.std.specs.Ordering.{nat_cmp, ordering_reverse}
-use Rattle.std.specs.Cmp.Lexicographic.{slice_cmp}
-use Rattle.std.proofs.lemmas.Cmp.{nat_list_cmp_total}
-use Rattle.std.specs.declared.cmp.Ordering.{Ordering}
-use Rattle.std.specs.declared.cmp.Ordering.TheVariants.{Less, Equal, Greater}
 use Rattle.bp_base.specs.declared.ident.Ident.{Ident}
 use Rattle.bp_base.specs.declared.ident.Ident.TheVariants.{Hole, Module, Module'}
 use Rattle.bp_base.specs.declared.ident.Unit.{Unit as OfUnit, Unit', out-Unit}
@@ -16,20 +11,11 @@ use Rattle.bp_base.specs.declared.ident.Ident.TheViews.{roll-Unit, roll-out-Unit
 use Rattle.unit_identity.specs.Fill.{filled, filled_unit, filled_row, at_hole, found}
 use Rattle.hole_unify.specs.declared.equation.Equation.{Equation}
 use Rattle.bp_base.specs.Texts.{Text, Before, Rise, RiseAfter}
-use Rattle.bp_base.proofs.Texts.{tied_texts, same_texts, texts_same, Before-transitive, not_before_itself}
+use Rattle.bp_base.proofs.Texts.{same_texts, texts_same, Before-transitive, not_before_itself, Rise-after, one_name}
 use Rattle.hole_unify.specs.Unifiers.{IsAnswer}
 use Rattle.hole_unify.proofs.Unifying.{Module-unit}
 use mathlib.Core.Former.{list_count, this, none_left}
 use denote.Hole.Carrier.{hidden, out, shown}
-
--- two names, neither of which is before the other, are one
-pub one_name : (m n : Text) → (Before m n → ⊥) → (Before n m → ⊥) → m ≡ n
-one_name m n a b = by (slice_cmp nat_cmp m n) refl
-  where
-    by : (o : Ordering) → slice_cmp nat_cmp m n ≡ o → m ≡ n
-    by Less e = absurd (a e)
-    by Equal e = tied_texts m n e
-    by Greater e = absurd (b (nat_list_cmp_total.antisymm n m ∙ ap ordering_reverse e))
 
 -- what fills to a hole is a hole
 hole-filled : (i : Ident) (f : List Fill) (m : List ℕ) → filled i f ≡ Hole m → (n : List ℕ) × (i ≡ Hole n)
@@ -132,10 +118,6 @@ found-alike f g a n = by (found n f) (found n g) refl refl (a.all n)
     by None (Some j) d e h = let k : j ≡ Hole n = ap (λ o. unwrap_or o (Hole n)) (sym e) ∙ sym h ∙ ap (λ o. unwrap_or o (Hole n)) d in absurd (a.second n (e ∙ ap Some k))
     by (Some i) None d e h = let k : i ≡ Hole n = ap (λ o. unwrap_or o (Hole n)) (sym d) ∙ h ∙ ap (λ o. unwrap_or o (Hole n)) e in absurd (a.first n (d ∙ ap Some k))
     by (Some i) (Some j) d e h = let k : i ≡ j = ap (λ o. unwrap_or o (Hole n)) (sym d) ∙ h ∙ ap (λ o. unwrap_or o (Hole n)) e in d ∙ ap Some k ∙ sym e
-
-Rise-after : (h : Text) (l : List Text) → RiseAfter h l → Rise l
-Rise-after h [] r = tt
-Rise-after h (n ∷ l) r = r.1
 
 -- rising fills, alike at each hole, are one list
 one_list : (f g : List Fill) → Rise (map (λ x. x.hole) f) → Rise (map (λ x. x.hole) g) → ((n : Text) → found n f ≡ found n g) → f ≡ g

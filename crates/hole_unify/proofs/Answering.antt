@@ -2,11 +2,13 @@
 use Rattle.std.proofs.Common.{◌≡◌, ◌≢◌, ℕ, zero, suc, ◌<◌, Bool, true, false, cond, List, [], ◌∷◌, map, ◌⊎◌, inl, inr, refl, ap, sym, ◌∙◌, subst, arith}
 use Rattle.std.specs.Prelude.{Option, Some, None, unwrap_or}
 use Rattle.std.specs.Str.{bytes_eq}
-use Rattle.std.specs.Ordering.{nat_cmp, ordering_reverse}
+use Rattle.std.specs.Ordering.{nat_cmp, ordering_reverse, is_lt}
 use Rattle.std.specs.Cmp.Lexicographic.{slice_cmp}
 use Rattle.std.proofs.lemmas.Cmp.{nat_list_cmp_total}
 use Rattle.std.specs.declared.cmp.Ordering.{Ordering}
 use Rattle.std.specs.declared.cmp.Ordering.TheVariants.{Less, Equal, Greater}
+use Rattle.std.proofs.lemmas.Option.{same_Some}
+use Rattle.bp_base.proofs.Idents.{Hole-name, Module-is, Hole-not-Module}
 use Rattle.bp_base.specs.declared.ident.Ident.{Ident}
 use Rattle.bp_base.specs.declared.ident.Ident.TheVariants.{Hole, Module, Module'}
 use Rattle.bp_base.specs.declared.ident.Unit.{Unit as OfUnit, out-Unit}
@@ -15,7 +17,7 @@ use Rattle.bp_base.specs.declared.ident.Fill.{Fill}
 use Rattle.bp_base.specs.declared.ident.Ident.TheBlock.{end_of-Unit, more_of-Unit}
 use Rattle.bp_base.specs.Lists.{Among}
 use Rattle.bp_base.specs.Texts.{Text, Before, Rise, RiseAfter}
-use Rattle.bp_base.proofs.Texts.{same_texts, other_texts, texts_same, tied_texts, not_before_itself}
+use Rattle.bp_base.proofs.Texts.{same_texts, other_texts, texts_same, tied_texts, not_before_itself, tested_before}
 use Rattle.unit_identity.specs.Fill.{found, filled, composed, at_hole}
 use Rattle.unit_identity.proofs.Fills.{filled-Module, filled_unit-out}
 use Rattle.hole_unify.specs.declared.equation.Equation.{Equation}
@@ -24,9 +26,9 @@ use Rattle.hole_unify.specs.Causes.{IsLawful, units_in}
 use Rattle.hole_unify.specs.Table.{Node, class_at, is_same, terms_in}
 use Rattle.hole_unify.specs.Tables.{In, IsTable}
 use Rattle.hole_unify.specs.Close.{IsSettled}
-use Rattle.hole_unify.specs.Build.{built_at, is_less, inserted, put, hole_put, term_put, answer}
-use Rattle.hole_unify.proofs.Terms.{Module-is, Hole-not-Module, same_terms, terms_same}
-use Rattle.hole_unify.proofs.Tables.{Some-same, class_at-found}
+use Rattle.hole_unify.specs.Build.{built_at, inserted, put, hole_put, term_put, answer}
+use Rattle.hole_unify.proofs.Terms.{same_terms, terms_same}
+use Rattle.hole_unify.proofs.Tables.{class_at-found}
 use Rattle.hole_unify.proofs.Gaps.{fill-class, one_head, one_fill}
 use Rattle.hole_unify.specs.Stands.{Builds, NoFills, MoreFills, made, IsEntry, Stands}
 use Rattle.hole_unify.proofs.Units.{some-or-none, listed-unit, found-among}
@@ -36,21 +38,13 @@ use Rattle.hole_unify.proofs.Occurring.{in-terms, occurs-built}
 
 -- ---- fills in order
 
-pub later : (m n : Text) → is_less (slice_cmp nat_cmp m n) ≡ false → m ≢ n → Before n m
+pub later : (m n : Text) → is_lt (slice_cmp nat_cmp m n) ≡ false → m ≢ n → Before n m
 later m n e d = by (slice_cmp nat_cmp m n) refl
   where
     by : (o : Ordering) → slice_cmp nat_cmp m n ≡ o → Before n m
-    by Less p = let f : true ≡ false = sym (ap is_less p) ∙ e in cc
+    by Less p = let f : true ≡ false = sym (ap is_lt p) ∙ e in cc
     by Equal p = absurd (d (tied_texts m n p))
     by Greater p = nat_list_cmp_total.antisymm n m ∙ ap ordering_reverse p
-
-pub earlier : (m n : Text) → is_less (slice_cmp nat_cmp m n) ≡ true → Before m n
-earlier m n e = by (slice_cmp nat_cmp m n) refl
-  where
-    by : (o : Ordering) → slice_cmp nat_cmp m n ≡ o → Before m n
-    by Less p = p
-    by Equal p = let f : false ≡ true = sym (ap is_less p) ∙ e in cc
-    by Greater p = let f : false ≡ true = sym (ap is_less p) ∙ e in cc
 
 abbrev holes : List Fill → List Text
 holes fs = map (λ x. x.hole) fs
@@ -69,24 +63,24 @@ tail-none x xs n e = by (bytes_eq x.hole n) refl
 -- an inserted fill keeps the order
 rise-inserted-after : (h : Text) (f : Fill) (xs : List Fill) → RiseAfter h (holes xs) → Before h f.hole → found f.hole xs ≡ None → RiseAfter h (holes (inserted f xs))
 rise-inserted-after h f [] r b e = (b, tt)
-rise-inserted-after h f (x ∷ xs) r b e = by (is_less (slice_cmp nat_cmp x.hole f.hole)) refl (λ c. rise-inserted-after x.hole f xs r.1 c (tail-none x xs f.hole e))
+rise-inserted-after h f (x ∷ xs) r b e = by (is_lt (slice_cmp nat_cmp x.hole f.hole)) refl (λ c. rise-inserted-after x.hole f xs r.1 c (tail-none x xs f.hole e))
   where
-    by : (c : Bool) → is_less (slice_cmp nat_cmp x.hole f.hole) ≡ c → (Before x.hole f.hole → RiseAfter x.hole (holes (inserted f xs))) → RiseAfter h (holes (cond c (x ∷ inserted f xs) (f ∷ x ∷ xs)))
-    by true d k = (r.0, k (earlier x.hole f.hole d))
+    by : (c : Bool) → is_lt (slice_cmp nat_cmp x.hole f.hole) ≡ c → (Before x.hole f.hole → RiseAfter x.hole (holes (inserted f xs))) → RiseAfter h (holes (cond c (x ∷ inserted f xs) (f ∷ x ∷ xs)))
+    by true d k = (r.0, k (tested_before x.hole f.hole d))
     by false d k = (b, (later x.hole f.hole d (head-apart x xs f.hole e), r.1))
 
 pub rise-inserted : (f : Fill) (xs : List Fill) → Rise (holes xs) → found f.hole xs ≡ None → Rise (holes (inserted f xs))
 rise-inserted f [] r e = tt
-rise-inserted f (x ∷ xs) r e = by (is_less (slice_cmp nat_cmp x.hole f.hole)) refl
+rise-inserted f (x ∷ xs) r e = by (is_lt (slice_cmp nat_cmp x.hole f.hole)) refl
   where
-    by : (c : Bool) → is_less (slice_cmp nat_cmp x.hole f.hole) ≡ c → Rise (holes (cond c (x ∷ inserted f xs) (f ∷ x ∷ xs)))
-    by true d = rise-inserted-after x.hole f xs r (earlier x.hole f.hole d) (tail-none x xs f.hole e)
+    by : (c : Bool) → is_lt (slice_cmp nat_cmp x.hole f.hole) ≡ c → Rise (holes (cond c (x ∷ inserted f xs) (f ∷ x ∷ xs)))
+    by true d = rise-inserted-after x.hole f xs r (tested_before x.hole f.hole d) (tail-none x xs f.hole e)
     by false d = (later x.hole f.hole d (head-apart x xs f.hole e), r)
 
 -- what is found after an insertion
 found-inserted-same : (f : Fill) (xs : List Fill) → found f.hole xs ≡ None → found f.hole (inserted f xs) ≡ Some f.ident
 found-inserted-same f [] e = ap (λ b. cond b (Some f.ident) None) (texts_same f.hole)
-found-inserted-same f (x ∷ xs) e = by (is_less (slice_cmp nat_cmp x.hole f.hole)) (found-inserted-same f xs (tail-none x xs f.hole e))
+found-inserted-same f (x ∷ xs) e = by (is_lt (slice_cmp nat_cmp x.hole f.hole)) (found-inserted-same f xs (tail-none x xs f.hole e))
   where
     apart : bytes_eq x.hole f.hole ≡ false
     apart = no (bytes_eq x.hole f.hole) refl
@@ -121,7 +115,7 @@ found-inserted-other f n xs d = go xs
 
     go : (ys : List Fill) → found n (inserted f ys) ≡ found n ys
     go [] = front []
-    go (x ∷ ys) = either (is_less (slice_cmp nat_cmp x.hole f.hole)) x ys (go ys)
+    go (x ∷ ys) = either (is_lt (slice_cmp nat_cmp x.hole f.hole)) x ys (go ys)
 
 -- ---- the fills so far
 
@@ -156,7 +150,7 @@ module _ (nodes : List Node) (built : List (Option Ident)) (one : (t : Ident) (k
       only m i g false c = ok.only m i (sym (other m c) ∙ g)
 
       moves : (m : Text) → found m (inserted new fs) ≡ Some (Hole m) → (c : Bool) → bytes_eq n m ≡ c → ⊥
-      moves m g true c = d (Some-same t (Hole n) (sym (same m c) ∙ g ∙ ap (λ z. Some (Hole z)) (sym (same_texts n m c))))
+      moves m g true c = d (same_Some t (Hole n) (sym (same m c) ∙ g ∙ ap (λ z. Some (Hole z)) (sym (same_texts n m c))))
       moves m g false c = ok.moves m (sym (other m c) ∙ g)
 
   -- one hole more
@@ -172,7 +166,7 @@ module _ (nodes : List Node) (built : List (Option Ident)) (one : (t : Ident) (k
       new = record { hole = n; ident = t }
 
       known : (i : Ident) → found n fs ≡ Some i → i ≡ t
-      known i e = let o = ok.only n i e in Some-same i t (sym o.2 ∙ ap (λ z. built_at z built) (one (Hole n) o.0 k o.1 p) ∙ b)
+      known i e = let o = ok.only n i e in same_Some i t (sym o.2 ∙ ap (λ z. built_at z built) (one (Hole n) o.0 k o.1 p) ∙ b)
 
       by : (c : Bool) → is_same t (Hole n) ≡ c → (found n fs ≡ None) ⊎ ((i : Ident) × (found n fs ≡ Some i)) → Keeps fs (cond c fs (put new (found n fs) fs)) n t
       by true c (inl e) = record { fills = ok; here = ap (λ o. unwrap_or o (Hole n)) e ∙ sym (same_terms t (Hole n) c); rest = λ m i l q r h. h }
@@ -189,7 +183,7 @@ module _ (nodes : List Node) (built : List (Option Ident)) (one : (t : Ident) (k
           other m i l q r h true d =
               let is = same_texts n m d in
               ap (λ o. unwrap_or o (Hole m)) (subst (λ z. found z (inserted new fs) ≡ Some t) is (found-inserted-same new fs e))
-              ∙ Some-same t i (sym b ∙ ap (λ z. built_at z built) (one (Hole m) k l (subst (λ z. In nodes (Hole z) k) is p) q) ∙ r)
+              ∙ same_Some t i (sym b ∙ ap (λ z. built_at z built) (one (Hole m) k l (subst (λ z. In nodes (Hole z) k) is p) q) ∙ r)
 
   -- every class is built
   module _ (done : (a : Ident) (k : ℕ) → In nodes a k → (t : Ident) × (built_at k built ≡ Some t)) where
@@ -221,7 +215,7 @@ module _ (nodes : List Node) (built : List (Option Ident)) (one : (t : Ident) (k
         here m l i (y, inl e, j, c) d =
             let names : n ≡ m = Hole-one n m (sym is ∙ ap (λ v. v.ident) e ∙ j) in
             let class : x.class ≡ l = ap (λ v. v.class) e ∙ c in
-            let t-is : t ≡ i = Some-same t i (sym b ∙ ap (λ z. built_at z built) class ∙ d) in
+            let t-is : t ≡ i = same_Some t i (sym b ∙ ap (λ z. built_at z built) class ∙ d) in
             subst (λ z. at_hole z new ≡ i) names (a.kept n t x.class p b k.here ∙ t-is)
           where
             Hole-one : (v w : Text) → Hole v ≡ Hole w → v ≡ w
@@ -252,9 +246,6 @@ no-fills nodes built one = record { rise = tt; only = λ n t e. cc; moves = λ n
 
 made-not-hole : (u : OfUnit) (l : List Fill) (m n : Text) → made u l m ≡ Hole n → ⊥
 made-not-hole u l m n e = Hole-not-Module n (roll-Unit (record { component = (out-Unit u).component; fills = l })) m (sym e)
-
-Hole-name : (m n : Text) → Hole m ≡ Hole n → m ≡ n
-Hole-name m n e = cc
 
 hole-found : (n m : Text) (f : List Fill) → found n f ≡ None → at_hole n f ≡ Hole n
 hole-found n m f e = ap (λ o. unwrap_or o (Hole n)) e

@@ -1,9 +1,12 @@
 -- What is built from closed classes, none of whose holes reaches itself.
 use Rattle.std.proofs.Common.{◌≡◌, ℕ, zero, suc, ◌+◌, ◌<◌, ◌≤◌, Bool, true, false, ◌&&◌, ◌||◌, cond, nat_eq, nat_lt, List, [], ◌∷◌, length, set, map, ◌⊎◌, inl, inr, refl, ap, sym, ◌∙◌, subst, arith}
-use Rattle.std.proofs.lemmas.Bool.{eqb-true, eq-eqb, ltb-true, ltb-false}
+use Rattle.std.proofs.lemmas.Bool.{eqb-true, eq-eqb, ltb-true, ltb-false, or_right}
 use Rattle.std.proofs.lemmas.List.{get_or-set_same, get_or-set_other, get_or-replicate, get_or_past, length-set, length-replicate}
 use Rattle.std.specs.Prelude.{Option, Some, None, replicate}
 use Rattle.std.specs.Option.{option_or}
+use Rattle.std.proofs.lemmas.Option.{same_Some}
+use Rattle.bp_base.proofs.Sets.{among-map, among-image}
+use Rattle.bp_base.proofs.Idents.{Module-is}
 use Rattle.bp_base.specs.declared.ident.Ident.{Ident}
 use Rattle.bp_base.specs.declared.ident.Ident.TheVariants.{Hole, Module, Module'}
 use Rattle.bp_base.specs.declared.ident.Unit.{Unit as OfUnit, out-Unit}
@@ -20,8 +23,8 @@ use Rattle.hole_unify.specs.Table.{Node, class_at, is_module}
 use Rattle.hole_unify.specs.Tables.{In, IsTable}
 use Rattle.hole_unify.specs.Build.{Entry, built_at, at_class, ident_built, with_fill, fills_built, module_of, has_module, term_hole, class_hole, least_hole, hole_of, term_ready, entry_of, node_ready, first_ready}
 use Rattle.hole_unify.specs.Stands.{Builds, NoFills, MoreFills, made, IsEntry, Stands}
-use Rattle.hole_unify.proofs.Terms.{Module-is, is_module-Module}
-use Rattle.hole_unify.proofs.Tables.{Among-map, Among-mapped, Some-same, class_at-found, sound-In}
+use Rattle.hole_unify.proofs.Terms.{is_module-Module}
+use Rattle.hole_unify.proofs.Tables.{class_at-found, sound-In}
 use Rattle.hole_unify.proofs.Units.{not-both, module-of}
 use Rattle.hole_unify.proofs.Reaching.{least-of, least-of-none}
 use Rattle.hole_unify.proofs.Unifying.{Same-filled}
@@ -46,7 +49,7 @@ built-after k built e t new p = by (nat_eq k e.class) refl
     by : (b : Bool) → nat_eq k e.class ≡ b → (built_at k built ≡ Some t) ⊎ ((e.class ≡ k) × (e.ident ≡ t))
     by true d =
         let is : k ≡ e.class = eqb-true k e.class d in
-        inr (sym is, Some-same e.ident t (sym (get_or-set_same built e.class (Some e.ident) None new.within) ∙ ap (λ z. built_at z (set built e.class (Some e.ident))) (sym is) ∙ p))
+        inr (sym is, same_Some e.ident t (sym (get_or-set_same built e.class (Some e.ident) None new.within) ∙ ap (λ z. built_at z (set built e.class (Some e.ident))) (sym is) ∙ p))
     by false d = inl (sym (get_or-set_other built e.class k (Some e.ident) None (λ is. let f : true ≡ false = sym (eq-eqb k e.class is) ∙ d in cc)) ∙ p)
 
 built-here : (built : List (Option Ident)) (k : ℕ) (t : Ident) → k < length built → built_at k (set built k (Some t)) ≡ Some t
@@ -63,10 +66,10 @@ module _ (nodes : List Node) (built : List (Option Ident)) where
   with-fill : (h : Text) (o : Option Ident) (r : Option (List Fill)) (l : List Fill) → with_fill h o r ≡ Some l → (t : Ident) × (fs : List Fill) × (o ≡ Some t) × (r ≡ Some fs) × (record { hole = h; ident = t } ∷ fs ≡ l)
   with-fill h None r l e = cc
   with-fill h (Some t) None l e = cc
-  with-fill h (Some t) (Some fs) l e = (t, fs, refl, refl, Some-same _ l e)
+  with-fill h (Some t) (Some fs) l e = (t, fs, refl, refl, same_Some _ l e)
 
   fills-build : (fs l : List Fill) → fills_built nodes built fs ≡ Some l → Builds nodes built fs l
-  fills-build [] l e = subst (Builds nodes built []) (Some-same [] l e) NoFills
+  fills-build [] l e = subst (Builds nodes built []) (same_Some [] l e) NoFills
   fills-build (f ∷ fs) l e = by (with-fill f.hole (ident_built nodes built f.ident) (fills_built nodes built fs) l e) (λ r g. fills-build fs r g)
     where
       by : (t : Ident) × (r : List Fill) × (ident_built nodes built f.ident ≡ Some t) × (fills_built nodes built fs ≡ Some r) × (record { hole = f.hole; ident = t } ∷ r ≡ l) → ((r : List Fill) → fills_built nodes built fs ≡ Some r → Builds nodes built fs r) → Builds nodes built (f ∷ fs) l
@@ -87,7 +90,7 @@ Builds-put nodes built e fs l new (MoreFills f k t gs r p q b) = MoreFills f k t
 -- ---- holes and modules of a class
 
 term-hole : (i : Ident) (n : Text) → term_hole i ≡ Some n → i ≡ Hole n
-term-hole (Hole m) n e = ap Hole (Some-same m n e)
+term-hole (Hole m) n e = ap Hole (same_Some m n e)
 term-hole (Module' s r m) n e = cc
 
 class-hole : (k : ℕ) (x : Node) (n : Text) → class_hole k x ≡ Some n → (x.ident ≡ Hole n) × (x.class ≡ k)
@@ -100,21 +103,17 @@ class-hole k x n = by (nat_eq x.class k) refl
 hole-class : (k : ℕ) (nodes : List Node) (n : Text) → In nodes (Hole n) k → Among (Some n) (map (class_hole k) nodes)
 hole-class k nodes n (x, h, i, c) =
     let e : class_hole k x ≡ Some n = ap (λ b. cond b (term_hole x.ident) None) (eq-eqb x.class k c) ∙ ap term_hole i in
-    subst (λ o. Among o (map (class_hole k) nodes)) e (Among-map (class_hole k) x nodes h)
+    subst (λ o. Among o (map (class_hole k) nodes)) e (among-map (class_hole k) x nodes h)
 
 pub least-hole : (k : ℕ) (nodes : List Node) (n : Text) → least_hole k nodes ≡ Some n → In nodes (Hole n) k × ((m : Text) → In nodes (Hole m) k → Before m n → ⊥)
 least-hole k nodes n e =
     let l = least-of (map (class_hole k) nodes) n e in
-    let x = Among-mapped (class_hole k) (Some n) nodes l.0 in
+    let x = among-image (class_hole k) (Some n) nodes l.0 in
     let c = class-hole k x.0 n x.2 in
     ((x.0, x.1, c.0, c.1), λ m h. l.1 m (hole-class k nodes m h))
 
 pub no-least : (k : ℕ) (nodes : List Node) → least_hole k nodes ≡ None → (n : Text) → In nodes (Hole n) k → ⊥
 no-least k nodes e n p = least-of-none (map (class_hole k) nodes) e n (hole-class k nodes n p)
-
-true-or : (a b : Bool) → b ≡ true → a || b ≡ true
-true-or true b e = refl
-true-or false b e = e
 
 has-module : (k : ℕ) (nodes : List Node) (u : OfUnit) (m : Text) → In nodes (Module u m) k → has_module k nodes ≡ true
 has-module k [] u m (x, h, i, c) = absurd h
@@ -122,7 +121,7 @@ has-module k (y ∷ ys) u m (x, inl e, i, c) =
     let one : nat_eq y.class k ≡ true = eq-eqb y.class k (ap (λ v. v.class) e ∙ c) in
     let kind : is_module y.ident ≡ true = ap is_module (ap (λ v. v.ident) e ∙ i) ∙ is_module-Module u m in
     (λ w. (one w && kind w) || has_module k ys)
-has-module k (y ∷ ys) u m (x, inr h, i, c) = true-or (nat_eq y.class k && is_module y.ident) (has_module k ys) (has-module k ys u m (x, h, i, c))
+has-module k (y ∷ ys) u m (x, inr h, i, c) = or_right (nat_eq y.class k && is_module y.ident) (has_module k ys) (has-module k ys u m (x, h, i, c))
 
 -- a module of a class that has one
 pub find-module : (k : ℕ) (nodes : List Node) → has_module k nodes ≡ true → (u : OfUnit) × (m : Text) × In nodes (Module u m) k
@@ -143,7 +142,7 @@ ready-is nodes built k (Hole n) t p e = by (has_module k nodes) refl
     hole None q f g = cc
     hole (Some m) q f g =
         let l = least-hole k nodes m q in
-        inl (record { name = m; is = sym (Some-same (Hole m) t f); listed = l.0; first = l.1; no_module = λ u x h. let z : true ≡ false = sym (has-module k nodes u x h) ∙ g in cc })
+        inl (record { name = m; is = sym (same_Some (Hole m) t f); listed = l.0; first = l.1; no_module = λ u x h. let z : true ≡ false = sym (has-module k nodes u x h) ∙ g in cc })
 
     by : (b : Bool) → has_module k nodes ≡ b → IsEntry nodes built k t
     by true d = let f : None ≡ Some t = ap (λ b. cond b None (hole_of (least_hole k nodes))) (sym d) ∙ e in cc
@@ -152,7 +151,7 @@ ready-is nodes built k (Module' s (more_of-Unit u end_of-Unit) m) t p e = by (fi
   where
     by : (o : Option (List Fill)) → fills_built nodes built (out-Unit u).fills ≡ o → IsEntry nodes built k t
     by None q = let f : None ≡ Some t = ap (module_of u m) (sym q) ∙ e in cc
-    by (Some l) q = inr (record { unit = u; name = m; fills = l; listed = subst (λ v. In nodes v k) (Module-is s u m) p; builds = fills-build nodes built (out-Unit u).fills l q; is = sym (Some-same (made u l m) t (ap (module_of u m) (sym q) ∙ e)) })
+    by (Some l) q = inr (record { unit = u; name = m; fills = l; listed = subst (λ v. In nodes v k) (Module-is s u m) p; builds = fills-build nodes built (out-Unit u).fills l q; is = sym (same_Some (made u l m) t (ap (module_of u m) (sym q) ∙ e)) })
 
 -- a class that is not built, and what it is
 pub record IsReady (nodes : List Node) (built : List (Option Ident)) (e : Entry) : Type 0 where
@@ -167,7 +166,7 @@ node-ready nodes built x e h = by (built_at x.class built) (term_ready nodes bui
     by (Some t) r p q f = let g : None ≡ Some e = ap (λ o. entry_of x.class o (term_ready nodes built x.class x.ident)) (sym p) ∙ f in cc
     by None None p q f = let g : None ≡ Some e = (λ w. entry_of x.class (sym p w) (sym q w)) ∙ f in cc
     by None (Some t) p q f =
-        let is : record { class = x.class; ident = t } ≡ e = Some-same _ e ((λ w. entry_of x.class (sym p w) (sym q w)) ∙ f) in
+        let is : record { class = x.class; ident = t } ≡ e = same_Some _ e ((λ w. entry_of x.class (sym p w) (sym q w)) ∙ f) in
         subst (IsReady nodes built) is (record { new = p; is = ready-is nodes built x.class x.ident t (x, h, refl, refl) q; listed = (x.ident, (x, h, refl, refl)) })
 
 pub or-either : {A : Type 0} (a b : Option A) (o : A) → option_or a b ≡ Some o → (a ≡ Some o) ⊎ (b ≡ Some o)

@@ -1,5 +1,6 @@
 -- There is one cause at most, and none beside an answer.
 use Rattle.std.proofs.Common.{◌≡◌, List, [], ◌∷◌, ◌++◌, refl, ap, sym, ◌∙◌, subst, append_assoc}
+use Rattle.bp_base.proofs.Texts.{one_name}
 use Rattle.bp_base.specs.declared.ident.Fill.{Fill}
 use Rattle.bp_base.specs.Texts.{Text}
 use Rattle.hole_unify.specs.declared.equation.Equation.{Equation}
@@ -9,7 +10,6 @@ use Rattle.hole_unify.specs.Unifiers.{IsUnifier, HasUnifier, IsAnswer}
 use Rattle.hole_unify.specs.Classes.{HasHeads, IsLeastCycle}
 use Rattle.hole_unify.specs.Causes.{FailsAt, IsCause}
 use Rattle.hole_unify.specs.Laws.{SameCause}
-use Rattle.hole_unify.proofs.Agreement.{one_name}
 
 list-head : {A : Type 0} {a b : A} {l k : List A} → a ∷ l ≡ b ∷ k → a ≡ b
 list-head e = cc

@@ -4,6 +4,8 @@ use Rattle.std.proofs.lemmas.Bool.{eqb-true, eq-eqb, ltb-true, ltb-false}
 use Rattle.std.proofs.lemmas.List.{map-append}
 use Rattle.std.specs.Prelude.{Option, Some, None, option_to_list}
 use Rattle.std.specs.Str.{bytes_eq}
+use Rattle.std.proofs.lemmas.Option.{same_Some}
+use Rattle.bp_base.proofs.Sets.{among-left, among-right, among-either}
 use Rattle.bp_base.specs.declared.ident.Ident.{Ident}
 use Rattle.bp_base.specs.declared.ident.Ident.TheVariants.{Hole, Module, Module'}
 use Rattle.bp_base.specs.declared.ident.Unit.{Unit as OfUnit, out-Unit}
@@ -24,7 +26,7 @@ use Rattle.hole_unify.specs.Tables.{In, One, IsTable}
 use Rattle.hole_unify.specs.Close.{Pair, fill_pair, fills_pairs, units_pairs, units_heads, terms_pairs, terms_heads, module_at, modules_pairs, modules_heads, classes_pairs, classes_heads, classes_moved, stated_pairs, IsSettled, pair_of, pairs_of, ArePairsBelow}
 use Rattle.hole_unify.proofs.Unifying.{Module-unit, Module-name}
 use Rattle.hole_unify.proofs.Terms.{is_module-Module}
-use Rattle.hole_unify.proofs.Tables.{Among-left, Among-right, Among-cases, Some-same, class_at-found, renumbered-cases, In-unmoved, One-moved, One-joined, sound-In, moved-table, listed-class, left-listed, right-listed, fill-listed}
+use Rattle.hole_unify.proofs.Tables.{class_at-found, renumbered-cases, In-unmoved, One-moved, One-joined, sound-In, moved-table, listed-class, left-listed, right-listed, fill-listed}
 use Rattle.hole_unify.proofs.Opening.{terms_pairs-Modules, terms_heads-Modules}
 use Rattle.hole_unify.proofs.Gaps.{total, moved-falls}
 use Rattle.hole_unify.proofs.Units.{listed-unit, module-of}
@@ -61,8 +63,8 @@ pair-among ours theirs (x ∷ fs) h i j k e p q = by (bytes_eq x.hole h) refl e 
     by true d g r =
         let is = same_texts x.hole h d in
         let first : fill_pair (found x.hole ours) (found x.hole theirs) ≡ pair ∷ [] = (λ w. fill_pair ((ap (λ z. found z ours) is ∙ p) w) ((ap (λ z. found z theirs) is ∙ q) w)) in
-        Among-left pair (fill_pair (found x.hole ours) (found x.hole theirs)) _ (subst (λ l. Among pair l) (sym first) (inl refl))
-    by false d g r = Among-right pair (fill_pair (found x.hole ours) (found x.hole theirs)) _ (r g)
+        among-left pair (fill_pair (found x.hole ours) (found x.hole theirs)) _ (subst (λ l. Among pair l) (sym first) (inl refl))
+    by false d g r = among-right pair (fill_pair (found x.hole ours) (found x.hole theirs)) _ (r g)
 
 -- a pair of fills at one hole
 record AtOne (us vs : List Fill) (p : Pair) : Type 0 where
@@ -72,7 +74,7 @@ record AtOne (us vs : List Fill) (p : Pair) : Type 0 where
 
 among-pair : (ours theirs fs : List Fill) (p : Pair) → Among p (fills_pairs ours theirs fs) → AtOne ours theirs p
 among-pair ours theirs [] p a = absurd a
-among-pair ours theirs (x ∷ fs) p a = elim (Among-cases p (fill_pair (found x.hole ours) (found x.hole theirs)) _ a) [
+among-pair ours theirs (x ∷ fs) p a = elim (among-either p (fill_pair (found x.hole ours) (found x.hole theirs)) _ a) [
   | inl b ↦ by (found x.hole ours) (found x.hole theirs) refl refl b
   | inr c ↦ among-pair ours theirs fs p c
 ]
@@ -105,7 +107,7 @@ units-clash : (u v : OfUnit) (m n : Text) (h : Head × Head) → units_heads u m
 units-clash u v m n h e = by (bytes_eq (out-Unit u).component (out-Unit v).component) (bytes_eq m n) refl refl e
   where
     is : two u m v n ≡ Some h → (head_of u m ≡ h.0) × (head_of v n ≡ h.1)
-    is f = let pair : Head × Head = (head_of u m, head_of v n) in let g : pair ≡ h = Some-same pair h f in (ap (λ z. z.0) g, ap (λ z. z.1) g)
+    is f = let pair : Head × Head = (head_of u m, head_of v n) in let g : pair ≡ h = same_Some pair h f in (ap (λ z. z.0) g, ap (λ z. z.1) g)
 
     by : (b c : Bool) → bytes_eq (out-Unit u).component (out-Unit v).component ≡ b → bytes_eq m n ≡ c → cond (b && c) None (two u m v n) ≡ Some h → (h.0 ≢ h.1) × (head_of u m ≡ h.0) × (head_of v n ≡ h.1)
     by true true p q f = cc
@@ -129,7 +131,7 @@ module-found k (x ∷ xs) a e = by (nat_eq x.class k) (is_module x.ident) refl r
     more r = record { unit = r.unit; name = r.name; is = r.is; listed = (r.listed.0, inr r.listed.1, r.listed.2, r.listed.3) }
 
     by : (b c : Bool) → nat_eq x.class k ≡ b → is_module x.ident ≡ c → cond (b && c) (Some x.ident) (module_at k xs) ≡ Some a → (module_at k xs ≡ Some a → IsModuleAt xs k a) → IsModuleAt (x ∷ xs) k a
-    by true true p q f r = let o = module-of x.ident q in record { unit = o.0; name = o.1; is = sym (Some-same x.ident a f) ∙ o.2; listed = (x, inl refl, o.2, eqb-true x.class k p) }
+    by true true p q f r = let o = module-of x.ident q in record { unit = o.0; name = o.1; is = sym (same_Some x.ident a f) ∙ o.2; listed = (x, inl refl, o.2, eqb-true x.class k p) }
     by true false p q f r = more (r f)
     by false c p q f r = more (r f)
 
@@ -175,12 +177,12 @@ pub record IsClosing (es : List Equation) (nodes : List Node) (pending : List Pa
 
 stated-among : (es : List Equation) (e : Equation) → Among e es → Among (record { one = e.left; other = e.right }) (stated_pairs es)
 stated-among [] e h = absurd h
-stated-among (x ∷ es) e (inl is) = Among-right _ (stated_pairs es) _ (inl (λ w. record { one = (is w).left; other = (is w).right }))
-stated-among (x ∷ es) e (inr h) = Among-left _ (stated_pairs es) _ (stated-among es e h)
+stated-among (x ∷ es) e (inl is) = among-right _ (stated_pairs es) _ (inl (λ w. record { one = (is w).left; other = (is w).right }))
+stated-among (x ∷ es) e (inr h) = among-left _ (stated_pairs es) _ (stated-among es e h)
 
 among-stated : (es : List Equation) (p : Pair) → Among p (stated_pairs es) → (e : Equation) × Among e es × (record { one = e.left; other = e.right } ≡ p)
 among-stated [] p h = absurd h
-among-stated (x ∷ es) p h = elim (Among-cases p (stated_pairs es) _ h) [
+among-stated (x ∷ es) p h = elim (among-either p (stated_pairs es) _ h) [
   | inl a ↦ let r = among-stated es p a in (r.0, inr r.1, r.2)
   | inr b ↦ elim b [ inl is ↦ (x, inl refl, is) | inr n ↦ absurd n ]
 ]
@@ -194,7 +196,7 @@ closing-start es table t terms = record {
   heads = λ u v m n k p q. let e = first-apart table (Module u m) (Module v n) k p q in (ap (λ z. (out-Unit z).component) (Module-unit u v m n e), Module-name u v m n e);
   fills = λ u v m n h k i j p q f g.
       let e = Module-unit u v m n (first-apart table (Module u m) (Module v n) k p q) in
-      let is : i ≡ j = Some-same i j (sym f ∙ ap (λ z. found h (out-Unit z).fills) e ∙ g) in
+      let is : i ≡ j = same_Some i j (sym f ∙ ap (λ z. found h (out-Unit z).fills) e ∙ g) in
       subst (λ z. Linked (nodes_of table (upto (length table))) (stated_pairs es) i z) is (Equal i);
 }
 
@@ -224,7 +226,7 @@ closing-end es nodes c = record {
     stated e h (inl is) = let k = c.table.listed e.left (left-listed es e h) in (k.0, k.1, subst (λ z. In nodes z k.0) is k.1)
 
     fills : (p q : ℕ) (i j : Ident) → (i ≡ j) ⊎ One nodes i j → class_at i nodes ≡ Some p → class_at j nodes ≡ Some q → p ≡ q
-    fills p q i j (inl is) d e = Some-same p q (sym d ∙ ap (λ z. class_at z nodes) is ∙ e)
+    fills p q i j (inl is) d e = same_Some p q (sym d ∙ ap (λ z. class_at z nodes) is ∙ e)
     fills p q i j (inr o) d e = c.table.one i p o.0 (class_at-found i nodes p d) o.1 ∙ c.table.one j o.0 q o.2 (class_at-found j nodes q e)
 
 -- ---- two classes become one
@@ -232,10 +234,10 @@ closing-end es nodes c = record {
 module _ (es : List Equation) (lawful : IsLawful es) (nodes : List Node) (rest : List Pair) (p : Pair) (c : IsClosing es nodes (rest ++ p ∷ [])) where
   module _ (to from : ℕ) (x y : Ident) (px : In nodes x to) (py : In nodes y from) (same : Same es y x) (link : One (moved from to nodes) p.one p.other) where
     grown : (a b : Ident) → Linked nodes (rest ++ p ∷ []) a b → Linked (moved from to nodes) (rest ++ modules_pairs (module_at to nodes) (module_at from nodes)) a b
-    grown = Linked-map nodes (moved from to nodes) (rest ++ p ∷ []) (rest ++ modules_pairs (module_at to nodes) (module_at from nodes)) (λ a b o. One-moved nodes from to a b o) (λ q h. kept q (Among-cases q rest (p ∷ []) h))
+    grown = Linked-map nodes (moved from to nodes) (rest ++ p ∷ []) (rest ++ modules_pairs (module_at to nodes) (module_at from nodes)) (λ a b o. One-moved nodes from to a b o) (λ q h. kept q (among-either q rest (p ∷ []) h))
       where
         kept : (q : Pair) → Among q rest ⊎ Among q (p ∷ []) → Linked (moved from to nodes) (rest ++ modules_pairs (module_at to nodes) (module_at from nodes)) q.one q.other
-        kept q (inl a) = Waits q (Among-left q rest _ a)
+        kept q (inl a) = Waits q (among-left q rest _ a)
         kept q (inr (inl e)) = subst (λ z. Linked (moved from to nodes) (rest ++ modules_pairs (module_at to nodes) (module_at from nodes)) z.one z.other) e (Here p.one p.other link)
         kept q (inr (inr n)) = absurd n
 
@@ -311,8 +313,8 @@ module _ (es : List Equation) (lawful : IsLawful es) (nodes : List Node) (rest :
           by (Some a) (Some b) d e g = of (firsts a b d e)
 
       all-good : (q : Pair) → Among q (rest ++ modules_pairs (module_at to nodes) (module_at from nodes)) → Good q
-      all-good q h = elim (Among-cases q rest _ h) [
-        | inl a ↦ let k = Among-left q rest (p ∷ []) a in let l = c.listed q k in record { one_class = c.sound q k; one = l.0; other = l.1 }
+      all-good q h = elim (among-either q rest _ h) [
+        | inl a ↦ let k = among-left q rest (p ∷ []) a in let l = c.listed q k in record { one_class = c.sound q k; one = l.0; other = l.1 }
         | inr b ↦ more-good q b
       ]
 
@@ -337,7 +339,7 @@ module _ (es : List Equation) (lawful : IsLawful es) (nodes : List Node) (rest :
                     let k = same-found (out-Unit u).fills (out-Unit f.one).fills h i (holes-alike u f.one m f.name to to a f.here left.0) d in
                     let l = same-found (out-Unit v).fills (out-Unit f.other).fills h j (holes-alike v f.other n f.name' from from b f.there (sym right.0)) e in
                     let pair = pair-among (out-Unit f.one).fills (out-Unit f.other).fills (out-Unit f.one).fills h k.0 l.0 k.0 k.1 k.1 l.1 in
-                    let waits = Waits (record { one = k.0; other = l.0 }) (Among-right (record { one = k.0; other = l.0 }) rest (modules_pairs (module_at to nodes) (module_at from nodes)) (subst (λ z. Among (record { one = k.0; other = l.0 }) z) (sym f.pairs) pair)) in
+                    let waits = Waits (record { one = k.0; other = l.0 }) (among-right (record { one = k.0; other = l.0 }) rest (modules_pairs (module_at to nodes) (module_at from nodes)) (subst (λ z. Among (record { one = k.0; other = l.0 }) z) (sym f.pairs) pair)) in
                     On i k.0 j (grown i k.0 (c.fills u f.one m f.name h to i k.0 a f.here d k.1))
                     (On k.0 l.0 j waits (grown l.0 j (c.fills f.other v f.name' n h from l.0 j f.there b l.1 e)));
               }
@@ -372,7 +374,7 @@ module _ (es : List Equation) (lawful : IsLawful es) (nodes : List Node) (rest :
 
 module _ (es : List Equation) (lawful : IsLawful es) (nodes : List Node) (rest : List Pair) (p : Pair) (c : IsClosing es nodes (rest ++ p ∷ [])) where
   sides : Same es p.one p.other
-  sides = c.sound p (Among-right p rest (p ∷ []) (inl refl))
+  sides = c.sound p (among-right p rest (p ∷ []) (inl refl))
 
   class : (t : Ident) → Among t (terms_in es) → (k : ℕ) × (class_at t nodes ≡ Some k)
   class t h = listed-class es nodes c.table t h
@@ -381,8 +383,8 @@ module _ (es : List Equation) (lawful : IsLawful es) (nodes : List Node) (rest :
   dropped : (k : ℕ) → In nodes p.one k → In nodes p.other k → IsClosing es nodes rest
   dropped k a b = record {
     table = c.table;
-    sound = λ q h. c.sound q (Among-left q rest (p ∷ []) h);
-    listed = λ q h. c.listed q (Among-left q rest (p ∷ []) h);
+    sound = λ q h. c.sound q (among-left q rest (p ∷ []) h);
+    listed = λ q h. c.listed q (among-left q rest (p ∷ []) h);
     stated = λ e h. less e.left e.right (c.stated e h);
     heads = c.heads;
     fills = λ u v m n h k i j d e f g. less i j (c.fills u v m n h k i j d e f g);
@@ -394,7 +396,7 @@ module _ (es : List Equation) (lawful : IsLawful es) (nodes : List Node) (rest :
       kept q (inr (inr n)) = absurd n
 
       less : (i j : Ident) → Linked nodes (rest ++ p ∷ []) i j → Linked nodes rest i j
-      less = Linked-map nodes nodes (rest ++ p ∷ []) rest (λ i j o. o) (λ q h. kept q (Among-cases q rest (p ∷ []) h))
+      less = Linked-map nodes nodes (rest ++ p ∷ []) rest (λ i j o. o) (λ q h. kept q (among-either q rest (p ∷ []) h))
 
   abbrev After : Option (Head × Head) → List Node → List Pair → Type 0
   After None new then = IsClosing es new then
@@ -425,7 +427,7 @@ module _ (es : List Equation) (lawful : IsLawful es) (nodes : List Node) (rest :
 
   after-pair : AfterClasses (class_at p.one nodes) (class_at p.other nodes)
   after-pair =
-      let l = c.listed p (Among-right p rest (p ∷ []) (inl refl)) in
+      let l = c.listed p (among-right p rest (p ∷ []) (inl refl)) in
       let k = class p.one l.0 in
       let m = class p.other l.1 in
       subst (λ o. AfterClasses o (class_at p.other nodes)) (sym k.1) (subst (λ o. AfterClasses (Some k.0) o) (sym m.1) (after-classes k.0 m.0 (class_at-found p.one nodes k.0 k.1) (class_at-found p.other nodes m.0 m.1)))
@@ -506,7 +508,7 @@ module-few k [] a e = cc
 module-few k (x ∷ xs) a e = by (nat_eq x.class k && is_module x.ident) e (module-few k xs a)
   where
     by : (b : Bool) → cond b (Some x.ident) (module_at k xs) ≡ Some a → (module_at k xs ≡ Some a → fills_in a ≤ width xs) → fills_in a ≤ fills_in x.ident + width xs
-    by true f r = let is : fills_in x.ident ≡ fills_in a = ap fills_in (Some-same x.ident a f) in omega (arith, is)
+    by true f r = let is : fills_in x.ident ≡ fills_in a = ap fills_in (same_Some x.ident a f) in omega (arith, is)
     by false f r = let le = r f in omega (arith, le)
 
 modules-few : (k l : ℕ) (nodes : List Node) → length (modules_pairs (module_at k nodes) (module_at l nodes)) ≤ width nodes
@@ -572,10 +574,10 @@ taken : (table : List Ident) (old rest : List NumberPair) (r : Option NumberPair
 taken table old rest r p e is = ap (pairs_of table) (taken-number old rest r p e is) ∙ map-append (pair_of table) rest (p ∷ [])
 
 pub taken-below : (n : ℕ) (old rest : List NumberPair) (r : Option NumberPair) (p : NumberPair) → ArePairsBelow n old → old ≡ rest ++ option_to_list r → r ≡ Some p → (p.one < n) × (p.other < n)
-taken-below n old rest r p b e is = subst (ArePairsBelow n) (taken-number old rest r p e is) b p (Among-right p rest (p ∷ []) (inl refl))
+taken-below n old rest r p b e is = subst (ArePairsBelow n) (taken-number old rest r p e is) b p (among-right p rest (p ∷ []) (inl refl))
 
 pub rest-below : (n : ℕ) (old rest : List NumberPair) (r : Option NumberPair) (p : NumberPair) → ArePairsBelow n old → old ≡ rest ++ option_to_list r → r ≡ Some p → ArePairsBelow n rest
-rest-below n old rest r p b e is q h = subst (ArePairsBelow n) (taken-number old rest r p e is) b q (Among-left q rest (p ∷ []) h)
+rest-below n old rest r p b e is q h = subst (ArePairsBelow n) (taken-number old rest r p e is) b q (among-left q rest (p ∷ []) h)
 
 -- the classes of a pair
 abbrev left_of : List Ident → List ℕ → NumberPair → Option ℕ

@@ -3,71 +3,57 @@ use Rattle.std.proofs.Common.{◌≡◌, ℕ, zero, suc, ◌+◌, ◌<◌, ◌�
 use Rattle.std.specs.Prelude.{Option, Some, None}
 use Rattle.std.specs.List.{insert}
 use Rattle.std.specs.Str.{bytes_eq}
-use Rattle.std.specs.Ordering.{nat_cmp}
+use Rattle.std.specs.Ordering.{nat_cmp, is_lt}
 use Rattle.std.specs.Cmp.Lexicographic.{slice_cmp}
+use Rattle.bp_base.proofs.Sets.{among-either}
 use Rattle.bp_base.specs.declared.ident.Ident.{Ident}
-use Rattle.bp_base.specs.declared.ident.Ident.TheVariants.{Hole, Module'}
 use Rattle.bp_base.specs.declared.ident.Fill.{Fill}
-use Rattle.bp_base.specs.declared.ident.Ident.TheBlock.{end_of-Unit, more_of-Unit}
 use Rattle.bp_base.specs.Lists.{Among}
 use Rattle.bp_base.specs.Texts.{Text, Before, Rise, RiseAfter}
-use Rattle.bp_base.proofs.Texts.{same_texts, other_texts, Before-transitive, not_before_itself}
+use Rattle.bp_base.proofs.Texts.{same_texts, other_texts, Before-transitive, not_before_itself, Rise-after, tested_before}
 use Rattle.ident_table.specs.declared.node.NumberFill.{NumberFill}
 use Rattle.ident_table.specs.Numbers.{ident_of, fill_of, fills_of}
 use Rattle.unit_identity.specs.Fill.{found}
-use Rattle.hole_unify.specs.Table.{is_same, nodes_of}
-use Rattle.hole_unify.specs.Build.{number_built, built_of, term_hole, is_less, place, inserted, put, term_put, answer}
+use Rattle.hole_unify.specs.Table.{nodes_of}
+use Rattle.hole_unify.specs.Build.{number_built, built_of, place, inserted, put, term_put, answer}
 use Rattle.hole_unify.specs.Stages.{number_place, is_first, Puts}
-use Rattle.hole_unify.proofs.Steps.{front_of}
-use Rattle.hole_unify.proofs.Tables.{Among-cases, Some-same, Among-drop}
+use Rattle.hole_unify.proofs.Tables.{Among-drop}
 use Rattle.hole_unify.proofs.Places.{node-front, built-at}
 use Rattle.hole_unify.proofs.Stages.{nodes-end}
-use Rattle.hole_unify.proofs.Answering.{later, earlier, rise-inserted}
+use Rattle.hole_unify.proofs.Answering.{later, rise-inserted}
 
 -- ---- whether an identity is a hole
-
-pub same-hole : (i : Ident) (n h : Text) → term_hole i ≡ Some n → bytes_eq n h ≡ is_same i (Hole h)
-same-hole (Hole m) n h e = ap (λ z. bytes_eq z h) (sym (Some-same m n e))
-same-hole (Module' s r m) n h e = cc
-
-pub same-none : (i : Ident) (h : Text) → term_hole i ≡ None → false ≡ is_same i (Hole h)
-same-none (Hole m) h e = cc
-same-none (Module' s (more_of-Unit u end_of-Unit) m) h e = refl
 
 -- ---- places
 
 abbrev pub holes : List NumberFill → List Text
 holes fs = map (λ x. x.hole) fs
 
-pub less-before : (m n : Text) → Before m n → is_less (slice_cmp nat_cmp m n) ≡ true
-less-before m n b = ap is_less b
-
-rise-rest : (h : Text) (l : List Text) → RiseAfter h l → Rise l
-rise-rest h [] r = tt
-rise-rest h (n ∷ l) r = r.1
+pub less-before : (m n : Text) → Before m n → is_lt (slice_cmp nat_cmp m n) ≡ true
+less-before m n b = ap is_lt b
 
 after-read : (h : Text) (fs : List NumberFill) (i : ℕ) (x : NumberFill) → RiseAfter h (holes fs) → i < length fs → x ≡ get_or fs i x → Before h x.hole
 after-read h [] i x r lt is = absurd (omega (arith, lt))
 after-read h (y ∷ fs) zero x r lt is = subst (λ z. Before h z.hole) (sym is) r.0
 after-read h (y ∷ fs) (suc i) x r lt is = Before-transitive h y.hole x.hole r.0 (after-read y.hole fs i x r.1 (omega (arith, lt)) is)
 
-pub place-after : (h : Text) (fs : List NumberFill) (i : ℕ) (x : NumberFill) → Rise (holes fs) → i < length fs → x ≡ get_or fs i x → is_less (slice_cmp nat_cmp x.hole h) ≡ true → i + 1 ≤ number_place h fs
+pub place-after : (h : Text) (fs : List NumberFill) (i : ℕ) (x : NumberFill) → Rise (holes fs) → i < length fs → x ≡ get_or fs i x → is_lt (slice_cmp nat_cmp x.hole h) ≡ true → i + 1 ≤ number_place h fs
 place-after h [] i x r lt is less = absurd (omega (arith, lt))
 place-after h (y ∷ fs) zero x r lt is less =
-    let e : number_place h (y ∷ fs) ≡ number_place h fs + 1 = ap (λ b. cond b (number_place h fs + 1) 0) (ap (λ z. is_less (slice_cmp nat_cmp z.hole h)) (sym is) ∙ less) in
+    let e : number_place h (y ∷ fs) ≡ number_place h fs + 1 = ap (λ b. cond b (number_place h fs + 1) 0) (ap (λ z. is_lt (slice_cmp nat_cmp z.hole h)) (sym is) ∙ less) in
     omega (arith, e)
 place-after h (y ∷ fs) (suc i) x r lt is less =
-    let before : is_less (slice_cmp nat_cmp y.hole h) ≡ true = less-before y.hole h (Before-transitive y.hole x.hole h (after-read y.hole fs i x r (omega (arith, lt)) is) (earlier x.hole h less)) in
+    let before : is_lt (slice_cmp nat_cmp y.hole h) ≡ true = less-before y.hole h (Before-transitive y.hole x.hole h (after-read y.hole fs i x r (omega (arith, lt)) is) (tested_before x.hole h less)) in
     let e : number_place h (y ∷ fs) ≡ number_place h fs + 1 = ap (λ b. cond b (number_place h fs + 1) 0) before in
-    let k = place-after h fs i x (rise-rest y.hole (holes fs) r) (omega (arith, lt)) is less in
+    let k = place-after h fs i x (Rise-after y.hole (holes fs) r) (omega (arith, lt)) is less in
     omega (arith, e, k)
 
-pub place-before : (h : Text) (fs : List NumberFill) (i : ℕ) (x : NumberFill) → i < length fs → x ≡ get_or fs i x → is_less (slice_cmp nat_cmp x.hole h) ≡ false → number_place h fs ≤ i
+pub place-before : (h : Text) (fs : List NumberFill) (i : ℕ) (x : NumberFill) → i < length fs → x ≡ get_or fs i x → is_lt (slice_cmp nat_cmp x.hole h) ≡ false → number_place h fs ≤ i
 place-before h [] i x lt is less = absurd (omega (arith, lt))
 place-before h (y ∷ fs) zero x lt is less =
-    let e : number_place h (y ∷ fs) ≡ 0 = ap (λ b. cond b (number_place h fs + 1) 0) (ap (λ z. is_less (slice_cmp nat_cmp z.hole h)) (sym is) ∙ less) in
+    let e : number_place h (y ∷ fs) ≡ 0 = ap (λ b. cond b (number_place h fs + 1) 0) (ap (λ z. is_lt (slice_cmp nat_cmp z.hole h)) (sym is) ∙ less) in
     omega (arith, e)
-place-before h (y ∷ fs) (suc i) x lt is less = by (is_less (slice_cmp nat_cmp y.hole h)) (place-before h fs i x (omega (arith, lt)) is less)
+place-before h (y ∷ fs) (suc i) x lt is less = by (is_lt (slice_cmp nat_cmp y.hole h)) (place-before h fs i x (omega (arith, lt)) is less)
   where
     by : (b : Bool) → number_place h fs ≤ i → cond b (number_place h fs + 1) 0 ≤ suc i
     by true k = omega (arith, k)
@@ -75,27 +61,18 @@ place-before h (y ∷ fs) (suc i) x lt is less = by (is_less (slice_cmp nat_cmp 
 
 pub place-within : (h : Text) (fs : List NumberFill) → number_place h fs ≤ length fs
 place-within h [] = omega arith
-place-within h (x ∷ fs) = by (is_less (slice_cmp nat_cmp x.hole h)) (place-within h fs)
+place-within h (x ∷ fs) = by (is_lt (slice_cmp nat_cmp x.hole h)) (place-within h fs)
   where
     by : (b : Bool) → number_place h fs ≤ length fs → cond b (number_place h fs + 1) 0 ≤ length (x ∷ fs)
     by true k = omega (arith, k)
     by false k = omega arith
-
-pub first-here : (h : Text) (fs : List NumberFill) (i : ℕ) (x : NumberFill) → i < length fs → x ≡ get_or fs i x → bytes_eq x.hole h ≡ is_first h (drop i fs)
-first-here h fs i x lt is = sym (ap (is_first h) (front_of fs i x lt is))
-
-pub first-past : (h : Text) (fs : List NumberFill) (i : ℕ) → length fs ≤ i → false ≡ is_first h (drop i fs)
-first-past h [] zero le = refl
-first-past h [] (suc i) le = refl
-first-past h (x ∷ fs) zero le = absurd (omega (arith, le))
-first-past h (x ∷ fs) (suc i) le = first-past h fs i (omega (arith, le))
 
 -- ---- what numbers stand for
 
 module _ (table : List Ident) where
   place-of : (h : Text) (fs : List NumberFill) → place h (fills_of table fs) ≡ number_place h fs
   place-of h [] = refl
-  place-of h (x ∷ fs) = ap (λ n. cond (is_less (slice_cmp nat_cmp x.hole h)) (n + 1) 0) (place-of h fs)
+  place-of h (x ∷ fs) = ap (λ n. cond (is_lt (slice_cmp nat_cmp x.hole h)) (n + 1) 0) (place-of h fs)
 
   holes-of : (fs : List NumberFill) → map (λ x. x.hole) (fills_of table fs) ≡ holes fs
   holes-of [] = refl
@@ -122,27 +99,27 @@ module _ (table : List Ident) where
 
   first-says : (h : Text) (fs : List NumberFill) → Rise (holes fs) → Says (is_first h (drop (number_place h fs) fs)) (found h (fills_of table fs))
   first-says h [] r = refl
-  first-says h (x ∷ fs) r = by (is_less (slice_cmp nat_cmp x.hole h)) refl (first-says h fs (rise-rest x.hole (holes fs) r))
+  first-says h (x ∷ fs) r = by (is_lt (slice_cmp nat_cmp x.hole h)) refl (first-says h fs (Rise-after x.hole (holes fs) r))
     where
       more : (n : ℕ) → drop (n + 1) (x ∷ fs) ≡ drop n fs
       more n = let e : n + 1 ≡ suc n = omega arith in ap (λ k. drop k (x ∷ fs)) e
 
-      here : (c : Bool) → bytes_eq x.hole h ≡ c → is_less (slice_cmp nat_cmp x.hole h) ≡ false → Says c (cond c (Some (fill_of table x).ident) (found h (fills_of table fs)))
+      here : (c : Bool) → bytes_eq x.hole h ≡ c → is_lt (slice_cmp nat_cmp x.hole h) ≡ false → Says c (cond c (Some (fill_of table x).ident) (found h (fills_of table fs)))
       here true d e = ((fill_of table x).ident, refl)
       here false d e = none-after h x.hole fs r (later x.hole h e (other_texts x.hole h d))
 
-      by : (b : Bool) → is_less (slice_cmp nat_cmp x.hole h) ≡ b → Says (is_first h (drop (number_place h fs) fs)) (found h (fills_of table fs))
+      by : (b : Bool) → is_lt (slice_cmp nat_cmp x.hole h) ≡ b → Says (is_first h (drop (number_place h fs) fs)) (found h (fills_of table fs))
           → Says (is_first h (drop (cond b (number_place h fs + 1) 0) (x ∷ fs))) (cond (bytes_eq x.hole h) (Some (fill_of table x).ident) (found h (fills_of table fs)))
       by false e k = here (bytes_eq x.hole h) refl e
       by true e k = apart (bytes_eq x.hole h) refl
         where
           apart : (c : Bool) → bytes_eq x.hole h ≡ c → Says (is_first h (drop (number_place h fs + 1) (x ∷ fs))) (cond c (Some (fill_of table x).ident) (found h (fills_of table fs)))
-          apart true d = absurd (not_before_itself h (subst (λ z. Before z h) (same_texts x.hole h d) (earlier x.hole h e)))
+          apart true d = absurd (not_before_itself h (subst (λ z. Before z h) (same_texts x.hole h d) (tested_before x.hole h e)))
           apart false d = subst (λ l. Says (is_first h l) (found h (fills_of table fs))) (sym (more (number_place h fs))) k
 
 insert-place : (f : Fill) (fs : List Fill) → insert fs (place f.hole fs) f ≡ inserted f fs
 insert-place f [] = refl
-insert-place f (x ∷ fs) = by (is_less (slice_cmp nat_cmp x.hole f.hole)) (insert-place f fs)
+insert-place f (x ∷ fs) = by (is_lt (slice_cmp nat_cmp x.hole f.hole)) (insert-place f fs)
   where
     insert-more : (n : ℕ) → insert (x ∷ fs) (n + 1) f ≡ x ∷ insert fs n f
     insert-more n = let e : n + 1 ≡ suc n = omega arith in ap (λ k. insert (x ∷ fs) k f) e
@@ -179,7 +156,7 @@ module _ (f : NumberFill) (old : List NumberFill) (r : Rise (holes old)) where
   puts-new is = record {
     puts = λ table. inserted-of table ∙ sym (ap (λ o. put (fill_of table f) o (fills_of table old)) (none is table));
     rise = subst Rise (sym (ap (map (λ x. x.hole)) (inserted-of [])) ∙ holes-of [] (insert old (number_place f.hole old) f)) (rise-inserted (fill_of [] f) (fills_of [] old) (subst Rise (sym (holes-of [] old)) r) (none is []));
-    below = λ n b lt g h. elim (Among-cases g (take (number_place f.hole old) old) (f ∷ drop (number_place f.hole old) old) h) [
+    below = λ n b lt g h. elim (among-either g (take (number_place f.hole old) old) (f ∷ drop (number_place f.hole old) old) h) [
       | inl a ↦ b g (Among-take g old (number_place f.hole old) a)
       | inr (inl e) ↦ subst (λ z. z.ident < n) e lt
       | inr (inr a) ↦ b g (Among-drop g old (number_place f.hole old) a)

@@ -2,6 +2,8 @@
 use Rattle.std.proofs.Common.{◌≡◌, ℕ, zero, suc, ◌<◌, ◌≤◌, Bool, true, false, cond, nat_eq, List, [], ◌∷◌, length, map, ◌⊎◌, inl, inr, refl, ap, sym, ◌∙◌, subst, arith}
 use Rattle.std.proofs.lemmas.Bool.{eqb-true, eq-eqb}
 use Rattle.std.specs.Prelude.{Option, Some, None}
+use Rattle.bp_base.proofs.Sets.{among-map}
+use Rattle.bp_base.proofs.Idents.{Module-is}
 use Rattle.bp_base.specs.declared.ident.Ident.{Ident}
 use Rattle.bp_base.specs.declared.ident.Ident.TheVariants.{Hole, Module, Module'}
 use Rattle.bp_base.specs.declared.ident.Unit.{Unit as OfUnit, out-Unit}
@@ -17,8 +19,7 @@ use Rattle.hole_unify.specs.Tables.{In, IsTable}
 use Rattle.hole_unify.specs.Close.{IsSettled}
 use Rattle.hole_unify.specs.Reach.{edges_of}
 use Rattle.hole_unify.specs.Build.{built_at, at_class, ident_built, fills_built, module_of, has_module, least_hole, hole_of, term_ready, entry_of, node_ready, first_ready}
-use Rattle.hole_unify.proofs.Terms.{Module-is}
-use Rattle.hole_unify.proofs.Tables.{class_at-found, Among-map}
+use Rattle.hole_unify.proofs.Tables.{class_at-found}
 use Rattle.hole_unify.proofs.Gaps.{fill-class}
 use Rattle.hole_unify.proofs.Reaching.{Path, First, Then, edge-has}
 use Rattle.hole_unify.proofs.Building.{all-built, least-hole, no-least, find-module, none-in}
@@ -189,4 +190,4 @@ module _ (es : List Equation) (lawful : IsLawful es) (nodes : List Node) (s : Is
   classes = map (λ x. x.class) nodes
 
   pub all-done : (a : Ident) (k : ℕ) → In nodes a k → (t : Ident) × (built_at k built ≡ Some t)
-  all-done a k p = all (suc (length (map (λ x. x.class) nodes))) (map (λ x. x.class) nodes) (omega arith) a k p (λ n j q. inl (subst (λ z. Among z (map (λ x. x.class) nodes)) q.3 (Among-map (λ x. x.class) q.0 nodes q.1)))
+  all-done a k p = all (suc (length (map (λ x. x.class) nodes))) (map (λ x. x.class) nodes) (omega arith) a k p (λ n j q. inl (subst (λ z. Among z (map (λ x. x.class) nodes)) q.3 (among-map (λ x. x.class) q.0 nodes q.1)))

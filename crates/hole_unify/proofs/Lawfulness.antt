@@ -1,25 +1,19 @@
 -- The test of the condition on units decides it.
-use Rattle.std.proofs.Common.{◌≡◌, ℕ, suc, ◌+◌, ◌<◌, Bool, true, false, ◌&&◌, ◌||◌, not, List, [], ◌∷◌, ◌++◌, length, get_or, drop, map, inl, inr, refl, ap, sym, ◌∙◌, subst, append_assoc, arith}
+use Rattle.std.proofs.Common.{◌≡◌, ℕ, ◌+◌, ◌<◌, Bool, true, false, ◌||◌, not, List, [], ◌∷◌, ◌++◌, length, get_or, drop, map, inl, inr, refl, ap, sym, ◌∙◌, subst, append_assoc}
 use Rattle.std.specs.Prelude.{IsTrue, ◌↔◌}
 use Rattle.std.specs.Str.{bytes_eq}
-use Rattle.std.specs.Ordering.{nat_cmp}
-use Rattle.std.specs.Cmp.Lexicographic.{slice_cmp}
-use Rattle.std.specs.declared.cmp.Ordering.{Ordering}
-use Rattle.std.specs.declared.cmp.Ordering.TheVariants.{Less, Equal, Greater}
-use Rattle.std.proofs.Math.Seq.{drop-cons}
 use Rattle.std.proofs.lemmas.Bool.{and_parts, and_from}
+use Rattle.hole_unify.proofs.Steps.{front_of}
 use Rattle.bp_base.specs.declared.ident.Ident.{Ident}
 use Rattle.bp_base.specs.declared.ident.Ident.TheVariants.{Module}
 use Rattle.bp_base.specs.declared.ident.Unit.{Unit as OfUnit, Unit', out-Unit}
 use Rattle.bp_base.specs.declared.ident.Fill.{Fill}
 use Rattle.bp_base.specs.declared.ident.Ident.TheBlock.{hidden-the_row-Unit-0, shown-the_row-Fill-1, Row_of-Fill, end_of-Fill, more_of-Fill}
 use Rattle.bp_base.specs.Lists.{Among}
-use Rattle.bp_base.specs.Texts.{Text, Before, Rise, RiseAfter}
-use Rattle.bp_base.proofs.Texts.{same_texts, texts_same}
+use Rattle.bp_base.specs.Texts.{Text, Rise, RiseAfter}
+use Rattle.bp_base.proofs.Texts.{same_texts, texts_same, tested_before}
 use Rattle.hole_unify.specs.declared.equation.Equation.{Equation}
 use Rattle.hole_unify.specs.Causes.{IsLawful, units_of, units_below, units_of_row, units_in, holes_of}
-use Rattle.hole_unify.specs.Build.{is_less}
-use Rattle.hole_unify.proofs.Answering.{earlier}
 use Rattle.hole_unify.proofs.Filling.{less-before}
 use Rattle.hole_unify.specs.Lawful.{units_in_fills, same_holes, rise_after, rises, agree, agrees_with, all_agree}
 use mathlib.Core.Former.{list_count, this, none_left}
@@ -40,11 +34,6 @@ pub units_below-out : (u : OfUnit) → units_below u ≡ units_in_fills (out-Uni
 units_below-out (Unit' c s r) = units-row c s r
 
 pub ruleset unit_equations = (units_of-Module, units_below-out)
-
-front_of : {A : Type 0} (xs : List A) (i : ℕ) (x : A) → i < length xs → x ≡ get_or xs i x → drop i xs ≡ x ∷ drop (i + 1) xs
-front_of xs i x lt is =
-    let one : suc i ≡ i + 1 = omega arith in
-    drop-cons xs i x lt ∙ (λ w. sym is w ∷ drop (one w) xs)
 
 pub fills-step : (fills : List Fill) (i : ℕ) (x : Fill) (now new t : List OfUnit) → i < length fills → x ≡ get_or fills i x
     → new ≡ now ++ units_of x.ident → now ++ units_in_fills (drop i fills) ≡ t → new ++ units_in_fills (drop (i + 1) fills) ≡ t
@@ -80,7 +69,7 @@ same-holes (x ∷ xs) (y ∷ ys) e = let p = and_parts _ _ e in let h = same_tex
 
 rises-after : (h : Text) (fs : List Fill) → rise_after h fs ≡ true → RiseAfter h (map (λ x. x.hole) fs)
 rises-after h [] e = tt
-rises-after h (x ∷ xs) e = let p = and_parts _ _ e in (earlier h x.hole p.0, rises-after x.hole xs p.1)
+rises-after h (x ∷ xs) e = let p = and_parts _ _ e in (tested_before h x.hole p.0, rises-after x.hole xs p.1)
 
 rises-all : (fs : List Fill) → rises fs ≡ true → Rise (map (λ x. x.hole) fs)
 rises-all [] e = tt

@@ -3,6 +3,10 @@ use Rattle.std.proofs.Common.{◌≡◌, ℕ, zero, suc, ◌+◌, ◌-◌, ◌<�
 use Rattle.std.proofs.lemmas.List.{map-append}
 use Rattle.std.proofs.lemmas.Option.{get_or_from_slice_get, slice_get_within}
 use Rattle.std.specs.Prelude.{Some, slice_get}
+use Rattle.ident_table.proofs.Numbering.{terms_below-out}
+use Rattle.ident_table.proofs.Nodes.{get-front, Grows-again, Grows-longer}
+use Rattle.bp_base.proofs.Sets.{among-left, among-right, among-either}
+use Rattle.bp_base.proofs.Idents.{Module-is}
 use Rattle.bp_base.specs.declared.ident.Ident.{Ident}
 use Rattle.bp_base.specs.declared.ident.Ident.TheVariants.{Hole, Module'}
 use Rattle.bp_base.specs.declared.ident.Unit.{out-Unit}
@@ -16,17 +20,15 @@ use Rattle.hole_unify.specs.declared.pair.NumberPair.{NumberPair}
 use Rattle.hole_unify.specs.Numbers.{IsNumbered}
 use Rattle.hole_unify.specs.Table.{terms_in, HasTerms}
 use Rattle.hole_unify.specs.Close.{pair_of, pairs_of, stated_pairs, ArePairsBelow}
-use Rattle.hole_unify.proofs.Terms.{terms_below-out, Module-is}
-use Rattle.hole_unify.proofs.Tables.{Among-left, Among-right, Among-cases}
 use Rattle.hole_unify.proofs.Steps.{front_of}
 use Rattle.hole_unify.proofs.Numbering.{Among-place, place-Among}
-use Rattle.hole_unify.proofs.Places.{ident-of-later, length-later, grows-more}
+use Rattle.hole_unify.proofs.Places.{ident-of-later}
 
 -- ---- what an identity is made of stands in the table too
 
 pub some-term : (fs : List Fill) (s : Ident) → Among s (terms_in_fills fs) → (f : Fill) × Among f fs × Among s (terms_of f.ident)
 some-term [] s h = absurd h
-some-term (f ∷ fs) s h = elim (Among-cases s (terms_of f.ident) (terms_in_fills fs) h) [
+some-term (f ∷ fs) s h = elim (among-either s (terms_of f.ident) (terms_in_fills fs) h) [
   | inl a ↦ (f, inl refl, a)
   | inr b ↦ let r = some-term fs s b in (r.0, inr r.1, r.2)
 ]
@@ -69,23 +71,20 @@ pub record IsListed (es : List Equation) (table : List Ident) (pairs : List Numb
 no-idents : IsIdentTable []
 no-idents = record { once = λ i j t e f. cc; below = λ k u m e f a. cc }
 
-pub none-listed : (table : List Ident) → table ≡ [] → IsListed [] table []
-none-listed table e = subst (λ z. IsListed [] z []) (sym e) (record { stated = refl; below = λ p h. absurd h; sides = λ e h. absurd h; only = λ t h. absurd h; ordered = no-idents })
-
 pub more-listed : (e : Equation) (es : List Equation) (old new : List Ident) (pairs : List NumberPair) (p : NumberPair) → IsListed es old pairs → IsNumbered old e new p → IsListed (e ∷ es) new (pairs ++ p ∷ [])
 more-listed e es old new pairs p l n = record {
   stated = map-append (pair_of new) pairs (p ∷ []) ∙ (λ w. (pairs-kept old new pairs n.grows l.below ∙ l.stated) w ++ record { one = get_or_from_slice_get new p.one e.left (Hole []) n.left w; other = get_or_from_slice_get new p.other e.right (Hole []) n.right w } ∷ []);
-  below = λ q h. below q (Among-cases q pairs (p ∷ []) h);
+  below = λ q h. below q (among-either q pairs (p ∷ []) h);
   sides = sides;
   only = λ t h. elim (n.parts t h) [
-    | inl a ↦ Among-right t (terms_of e.left) _ (Among-right t (terms_of e.right) _ (l.only t a))
-    | inr b ↦ elim b [ inl c ↦ Among-left t (terms_of e.left) _ c | inr d ↦ Among-right t (terms_of e.left) _ (Among-left t (terms_of e.right) _ d) ]
+    | inl a ↦ among-right t (terms_of e.left) _ (among-right t (terms_of e.right) _ (l.only t a))
+    | inr b ↦ elim b [ inl c ↦ among-left t (terms_of e.left) _ c | inr d ↦ among-right t (terms_of e.left) _ (among-left t (terms_of e.right) _ d) ]
   ];
   ordered = n.table;
 }
   where
     le : length old ≤ length new
-    le = length-later old new n.grows
+    le = Grows-longer old new n.grows
 
     below : (q : NumberPair) → Among q pairs ⊎ Among q (p ∷ []) → (q.one < length new) × (q.other < length new)
     below q (inl a) = let b = l.below q a in let x = b.0 in let y = b.1 in let z = le in (omega (arith, x, z), omega (arith, y, z))
@@ -93,7 +92,7 @@ more-listed e es old new pairs p l n = record {
     below q (inr (inr h)) = absurd h
 
     kept : (t : Ident) → Among t old → Among t new
-    kept t a = subst (λ z. Among t z) (sym n.grows.1) (Among-left t old n.grows.0 a)
+    kept t a = subst (λ z. Among t z) (sym n.grows.1) (among-left t old n.grows.0 a)
 
     sides : (x : Equation) → (e ≡ x) ⊎ Among x es → Among x.left new × Among x.right new
     sides x (inl is) = subst (λ z. Among z.left new × Among z.right new) is (place-Among e.left new p.one n.left, place-Among e.right new p.other n.right)
@@ -106,9 +105,9 @@ listed-terms es table pairs l = record { listed = λ t h. all es l.sides t h; on
   where
     all : (gs : List Equation) → ((e : Equation) → Among e gs → Among e.left table × Among e.right table) → (t : Ident) → Among t (terms_in gs) → Among t table
     all [] s t h = absurd h
-    all (e ∷ gs) s t h = elim (Among-cases t (terms_of e.left) _ h) [
+    all (e ∷ gs) s t h = elim (among-either t (terms_of e.left) _ h) [
       | inl a ↦ terms-stand table l.ordered e.left t (s e (inl refl)).0 a
-      | inr r ↦ elim (Among-cases t (terms_of e.right) _ r) [
+      | inr r ↦ elim (among-either t (terms_of e.right) _ r) [
         | inl b ↦ terms-stand table l.ordered e.right t (s e (inl refl)).1 b
         | inr c ↦ all gs (λ x g. s x (inr g)) t c
       ]
@@ -116,17 +115,12 @@ listed-terms es table pairs l = record { listed = λ t h. all es l.sides t h; on
 
 -- ---- an equation
 
-longer : {A : Type 0} (xs ys : List A) (i : ℕ) (x : A) → slice_get xs i ≡ Some x → slice_get (xs ++ ys) i ≡ Some x
-longer [] ys i x e = cc
-longer (z ∷ xs) ys zero x e = e
-longer (z ∷ xs) ys (suc i) x e = longer xs ys i x e
-
 pub numbered-sides : (old mid new : List Ident) (e : Equation) (p : NumberPair) → slice_get mid p.one ≡ Some e.left → Grows old mid → ((t : Ident) → Among t mid → Among t old ⊎ Among t (terms_of e.left))
     → slice_get new p.other ≡ Some e.right → Grows mid new → ((t : Ident) → Among t new → Among t mid ⊎ Among t (terms_of e.right)) → IsIdentTable new → IsNumbered old e new p
 numbered-sides old mid new e p left (a, ga) pa right (b, gb) pb table = record {
-  left = ap (λ l. slice_get l p.one) gb ∙ longer mid b p.one e.left left;
+  left = ap (λ l. slice_get l p.one) gb ∙ get-front mid b p.one e.left left;
   right = right;
-  grows = grows-more old mid new (a, ga) (b, gb);
+  grows = Grows-again old mid new (a, ga) (b, gb);
   parts = λ t h. elim (pb t h) [ inl m ↦ elim (pa t m) [ inl o ↦ inl o | inr x ↦ inr (inl x) ] | inr y ↦ inr (inr y) ];
   table = table;
 }

@@ -1,11 +1,12 @@
 -- Identities of a table with their classes: what the numbers say of the nodes.
-use Rattle.std.proofs.Common.{◌≡◌, ℕ, zero, suc, ◌+◌, ◌<◌, ◌≤◌, Bool, true, false, ◌&&◌, cond, nat_eq, List, [], ◌∷◌, ◌++◌, length, map, get_or, set, take, drop, ◌⊎◌, inl, inr, refl, ap, sym, ◌∙◌, subst, arith, length-append}
+use Rattle.std.proofs.Common.{◌≡◌, ℕ, zero, suc, ◌+◌, ◌<◌, ◌≤◌, Bool, true, false, ◌&&◌, cond, nat_eq, List, [], ◌∷◌, ◌++◌, length, map, get_or, set, take, drop, inl, inr, refl, ap, sym, ◌∙◌, subst, arith, length-append}
 use Rattle.std.proofs.Math.Seq.{drop-cons}
 use Rattle.std.proofs.lemmas.Grind.{get_or_default_zero}
 use Rattle.std.proofs.lemmas.List.{length-map, length-take-le, length-drop}
 use Rattle.std.proofs.lemmas.List.Edits.{map_over_more}
-use Rattle.std.proofs.lemmas.Option.{get_or_from_slice_get, slice_get-get_or, slice_get_within}
+use Rattle.std.proofs.lemmas.Option.{get_or_from_slice_get, slice_get-get_or, slice_get_within, same_Some}
 use Rattle.std.specs.Prelude.{Option, Some, None, slice_get}
+use Rattle.ident_table.proofs.Nodes.{get-either}
 use Rattle.bp_base.specs.declared.ident.Ident.{Ident}
 use Rattle.bp_base.specs.declared.ident.Ident.TheVariants.{Hole}
 use Rattle.bp_base.specs.Lists.{Among}
@@ -16,7 +17,6 @@ use Rattle.hole_unify.specs.Table.{Node, HasTerms, is_module, is_same, class_at,
 use Rattle.hole_unify.specs.Tables.{In, IsTable}
 use Rattle.hole_unify.specs.Close.{module_at}
 use Rattle.hole_unify.proofs.Terms.{same_terms, terms_same}
-use Rattle.hole_unify.proofs.Tables.{Some-same}
 
 -- ---- items and their places
 
@@ -27,7 +27,7 @@ Among-place x (y ∷ xs) (inr h) = let r = Among-place x xs h in (suc r.0, r.1)
 
 pub place-Among : {A : Type 0} (x : A) (xs : List A) (i : ℕ) → slice_get xs i ≡ Some x → Among x xs
 place-Among x [] i e = cc
-place-Among x (y ∷ xs) zero e = inl (Some-same y x e)
+place-Among x (y ∷ xs) zero e = inl (same_Some y x e)
 place-Among x (y ∷ xs) (suc i) e = inr (place-Among x xs i e)
 
 -- ---- numbers of a table
@@ -76,7 +76,7 @@ node-place (t ∷ ts) (k ∷ ks) x (inr h) = let r = node-place ts ks x h in (su
 pub place-node : (table : List Ident) (classes : List ℕ) (i : ℕ) (t : Ident) (k : ℕ) → slice_get table i ≡ Some t → slice_get classes i ≡ Some k → In (nodes_of table classes) t k
 place-node [] ks i t k p q = cc
 place-node (s ∷ ts) [] i t k p q = cc
-place-node (s ∷ ts) (l ∷ ks) zero t k p q = (record { ident = s; class = l }, inl refl, Some-same s t p, Some-same l k q)
+place-node (s ∷ ts) (l ∷ ks) zero t k p q = (record { ident = s; class = l }, inl refl, same_Some s t p, same_Some l k q)
 place-node (s ∷ ts) (l ∷ ks) (suc i) t k p q = let r = place-node ts ks i t k p q in (r.0, inr r.1, r.2, r.3)
 
 -- ---- the first module of a class, from a number on
@@ -144,15 +144,9 @@ pub upto-length : (n : ℕ) → length (upto n) ≡ n
 upto-length zero = refl
 upto-length (suc n) = let r = upto-length n in let s = length-append (upto n) (n ∷ []) in omega (arith, r, s)
 
-last-place : {A : Type 0} (xs : List A) (y x : A) (i : ℕ) → slice_get (xs ++ y ∷ []) i ≡ Some x → (slice_get xs i ≡ Some x) ⊎ ((i ≡ length xs) × (y ≡ x))
-last-place [] y x zero e = inr (refl, Some-same y x e)
-last-place [] y x (suc i) e = cc
-last-place (z ∷ xs) y x zero e = inl e
-last-place (z ∷ xs) y x (suc i) e = elim (last-place xs y x i e) [ inl a ↦ inl a | inr b ↦ inr (ap suc b.0, b.1) ]
-
 pub upto-place : (n i k : ℕ) → slice_get (upto n) i ≡ Some k → i ≡ k
 upto-place zero i k e = cc
-upto-place (suc n) i k e = elim (last-place (upto n) n k i e) [ inl a ↦ upto-place n i k a | inr b ↦ b.0 ∙ upto-length n ∙ b.1 ]
+upto-place (suc n) i k e = elim (get-either (upto n) n k i e) [ inl a ↦ upto-place n i k a | inr b ↦ b.0 ∙ upto-length n ∙ b.1 ]
 
 pub place-upto : (n i : ℕ) → i < n → slice_get (upto n) i ≡ Some i
 place-upto n i lt =
@@ -176,7 +170,7 @@ module _ (table : List Ident) where
 
   -- a class has one identity
   pub first-apart : (a b : Ident) (k : ℕ) → In first a k → In first b k → a ≡ b
-  first-apart a b k p q = Some-same a b (sym (first-In a k p) ∙ first-In b k q)
+  first-apart a b k p q = same_Some a b (sym (first-In a k p) ∙ first-In b k q)
 
   first-listed : (t : Ident) → Among t table → (k : ℕ) × In first t k
   first-listed t h =
@@ -189,7 +183,7 @@ first-table es table is terms = record {
   only = λ x h. terms.only x.ident (place-Among x.ident table x.class (first-number table x h));
   one = λ t k l p q. is.once k l t (first-In table t k p) (first-In table t l q);
   below = λ x h. below x (slice_get_within table x.class x.ident (first-number table x h));
-  sound = λ x y h g e. subst (λ z. Same es x.ident z) (Some-same x.ident y.ident (sym (first-number table x h) ∙ ap (slice_get table) e ∙ first-number table y g)) (Itself x.ident);
+  sound = λ x y h g e. subst (λ z. Same es x.ident z) (same_Some x.ident y.ident (sym (first-number table x h) ∙ ap (slice_get table) e ∙ first-number table y g)) (Itself x.ident);
 }
   where
     below : (x : Node) → x.class < length table → x.class < length (nodes_of table (upto (length table)))

@@ -1,6 +1,7 @@
 -- What is built is made of the holes and heads of the equations.
-use Rattle.std.proofs.Common.{◌≡◌, ℕ, zero, suc, ◌+◌, ◌<◌, ◌≤◌, List, [], ◌∷◌, map, inl, inr, refl, ap, sym, ◌∙◌, subst, arith}
+use Rattle.std.proofs.Common.{◌≡◌, ℕ, zero, suc, ◌<◌, ◌≤◌, List, [], ◌∷◌, map, inl, inr, refl, ap, sym, ◌∙◌, subst, arith}
 use Rattle.std.specs.Prelude.{Option, Some}
+use Rattle.ident_table.proofs.Numbering.{terms_below-out, terms_of-Module}
 use Rattle.bp_base.specs.declared.ident.Ident.{Ident}
 use Rattle.bp_base.specs.declared.ident.Ident.TheVariants.{Hole, Module}
 use Rattle.bp_base.specs.declared.ident.Unit.{Unit as OfUnit, out-Unit}
@@ -17,7 +18,6 @@ use Rattle.hole_unify.specs.Tables.{In, IsTable}
 use Rattle.hole_unify.specs.Build.{built_at}
 use Rattle.hole_unify.specs.Stands.{Builds, NoFills, MoreFills, made, IsEntry, Stands}
 use Rattle.hole_unify.specs.Occurrence.{Occurs}
-use Rattle.hole_unify.proofs.Terms.{terms_of-Module, terms_below-out}
 use Rattle.hole_unify.proofs.Listing.{some-term}
 use Rattle.hole_unify.proofs.Unifying.{weight, weights, weight-Module, weight_unit-out}
 use denote.Hole.Carrier.{hidden}

@@ -3,6 +3,8 @@ use Rattle.std.proofs.Common.{◌≡◌, ℕ, ◌<◌, ◌≤◌, Bool, true, fa
 use Rattle.std.proofs.lemmas.List.{map-append}
 use Rattle.std.specs.Prelude.{Option, Some, None, slice_get, option_map}
 use Rattle.std.specs.Str.{bytes_eq}
+use Rattle.ident_table.proofs.Nodes.{below-longer}
+use Rattle.bp_base.proofs.Sets.{among-either}
 use Rattle.bp_base.specs.declared.ident.Ident.{Ident}
 use Rattle.bp_base.specs.declared.ident.Ident.TheViews.{roll-Unit, out-roll-Unit}
 use Rattle.bp_base.specs.declared.ident.Unit.{Unit as OfUnit}
@@ -18,7 +20,6 @@ use Rattle.hole_unify.proofs.Opening.{terms_pairs-Modules, terms_heads-Modules, 
 use Rattle.hole_unify.specs.Numbers.{number_at}
 use Rattle.hole_unify.proofs.Fillers.{found-number, number-below}
 use Rattle.hole_unify.proofs.Numbering.{ident_of-place}
-use Rattle.hole_unify.proofs.Tables.{Among-cases}
 
 -- ---- what pairs of numbers stand for
 
@@ -62,7 +63,7 @@ nodes-heads table (node.Module c fs m) (node.Module d gs n) =
 -- ---- numbers below the length of the table
 
 pub pairs-below-append : (n : ℕ) (ps qs : List NumberPair) → ArePairsBelow n ps → ArePairsBelow n qs → ArePairsBelow n (ps ++ qs)
-pairs-below-append n ps qs a b p h = elim (Among-cases p ps qs h) [ inl x ↦ a p x | inr y ↦ b p y ]
+pairs-below-append n ps qs a b p h = elim (among-either p ps qs h) [ inl x ↦ a p x | inr y ↦ b p y ]
 
 fills-below : (n : ℕ) (ours theirs fs : List NumberFill) → AreFillsBelow n ours → AreFillsBelow n theirs → ArePairsBelow n (fills_numbers ours theirs fs)
 fills-below n ours theirs [] a b = λ p h. absurd h
@@ -74,16 +75,13 @@ fills-below n ours theirs (f ∷ fs) a b = pairs-below-append n (fill_numbers (n
     by (Some i) (Some j) d e p (inl is) = subst (λ z. (z.one < n) × (z.other < n)) is (number-below n f.hole ours i a d, number-below n f.hole theirs j b e)
     by (Some i) (Some j) d e p (inr h) = absurd h
 
-fills-below-more : (k n : ℕ) (fs : List NumberFill) → k ≤ n → AreFillsBelow k fs → AreFillsBelow n fs
-fills-below-more k n fs le b f h = let lt = b f h in omega (arith, le, lt)
-
 pub nodes-below : (k l n : ℕ) (x y : IdentNode) → k ≤ n → l ≤ n → IsNodeBelow k x → IsNodeBelow l y → ArePairsBelow n (nodes_numbers x y)
 nodes-below k l n (node.Hole m) y p q a b = λ c h. absurd h
 nodes-below k l n (node.Module c fs m) (node.Hole o) p q a b = λ e h. absurd h
 nodes-below k l n (node.Module c fs m) (node.Module d gs o) p q a b = by (bytes_eq c d && bytes_eq m o)
   where
     by : (t : Bool) → ArePairsBelow n (cond t (fills_numbers fs gs fs) [])
-    by true = fills-below n fs gs fs (fills-below-more k n fs p a) (fills-below-more l n gs q b)
+    by true = fills-below n fs gs fs (below-longer k n fs p a) (below-longer l n gs q b)
     by false = λ e h. absurd h
 
 -- ---- two modules that stand at numbers of the table

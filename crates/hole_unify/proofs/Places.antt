@@ -1,8 +1,9 @@
 -- The nodes of a table's numbers, and what is built for them.
-use Rattle.std.proofs.Common.{◌≡◌, ℕ, zero, suc, ◌+◌, ◌<◌, ◌≤◌, List, [], ◌∷◌, ◌++◌, length, get_or, set, drop, ◌⊎◌, inl, inr, refl, ap, sym, ◌∙◌, subst, arith, length-append, append_assoc, append-nil}
+use Rattle.std.proofs.Common.{◌≡◌, ℕ, zero, suc, ◌+◌, ◌<◌, ◌≤◌, List, [], ◌∷◌, ◌++◌, length, get_or, set, drop, ◌⊎◌, inl, inr, refl, ap, sym, ◌∙◌, subst, arith}
 use Rattle.std.proofs.Math.ListN.{get_or-append}
 use Rattle.std.specs.Prelude.{Option, Some, None}
 use Rattle.std.specs.Option.{option_map}
+use Rattle.std.proofs.lemmas.Option.{same_Some}
 use Rattle.bp_base.specs.declared.ident.Ident.{Ident}
 use Rattle.bp_base.specs.declared.ident.Ident.TheVariants.{Hole}
 use Rattle.bp_base.specs.Lists.{Among}
@@ -12,7 +13,6 @@ use Rattle.ident_table.specs.Numbers.{ident_of, fills_of, AreFillsBelow, IsIdent
 use Rattle.hole_unify.specs.Table.{nodes_of}
 use Rattle.hole_unify.specs.Build.{number_built, built_of, AreBuiltBelow, at_class, ident_built, with_fill, fills_built}
 use Rattle.hole_unify.specs.Stages.{node_at, built_for, with_number, numbers_built}
-use Rattle.hole_unify.proofs.Tables.{Some-same}
 use Rattle.hole_unify.proofs.Numbering.{class-of}
 
 -- ---- nodes of numbers
@@ -37,15 +37,6 @@ nodes-grow (t ∷ ts) more (k ∷ ks) le = ap (λ l. record { ident = t; class =
 
 pub nodes-later : (table later : List Ident) (classes : List ℕ) → Grows table later → length classes ≤ length table → nodes_of later classes ≡ nodes_of table classes
 nodes-later table later classes (more, is) le = ap (λ t. nodes_of t classes) is ∙ nodes-grow table more classes le
-
-pub length-later : (table later : List Ident) → Grows table later → length table ≤ length later
-length-later table later (more, is) = let a = ap length is in let b = length-append table more in omega (arith, a, b)
-
-pub grows-none : (table : List Ident) → Grows table table
-grows-none table = ([], sym (append-nil table))
-
-pub grows-more : (a b c : List Ident) → Grows a b → Grows b c → Grows a c
-grows-more a b c (x, p) (y, q) = (x ++ y, q ∙ ap (λ z. z ++ y) p ∙ append_assoc a x y)
 
 -- ---- what is built
 
@@ -77,7 +68,7 @@ Among-set x (z ∷ l) (suc i) y (inr h) = elim (Among-set x l i y h) [ inl e ↦
 
 pub below-set : (n : ℕ) (built : List (Option ℕ)) (k m : ℕ) → AreBuiltBelow n built → m < n → AreBuiltBelow n (set built k (Some m))
 below-set n built k m below lt j h = elim (Among-set (Some j) built k (Some m) h) [
-  | inl e ↦ (let i : j ≡ m = Some-same j m e in omega (arith, i, lt))
+  | inl e ↦ (let i : j ≡ m = same_Some j m e in omega (arith, i, lt))
   | inr g ↦ below j g
 ]
 
@@ -105,13 +96,13 @@ module _ (table : List Ident) (classes : List ℕ) (built : List (Option ℕ)) (
       (λ w. with_fill f.hole (first w) (rest w)) ∙ joined f.hole (built_for classes built f.ident) (numbers_built classes built fs)
 
 pub numbers-below : (n : ℕ) (classes : List ℕ) (built : List (Option ℕ)) (fs l : List NumberFill) → AreBuiltBelow n built → numbers_built classes built fs ≡ Some l → AreFillsBelow n l
-numbers-below n classes built [] l below e = λ g h. absurd (subst (Among g) (sym (Some-same [] l e)) h)
+numbers-below n classes built [] l below e = λ g h. absurd (subst (Among g) (sym (same_Some [] l e)) h)
 numbers-below n classes built (f ∷ fs) l below e = by (built_for classes built f.ident) (numbers_built classes built fs) refl e (λ r d. numbers-below n classes built fs r below d) refl
   where
     by : (o : Option ℕ) (r : Option (List NumberFill)) → built_for classes built f.ident ≡ o → with_number f.hole o r ≡ Some l → ((k : List NumberFill) → numbers_built classes built fs ≡ Some k → AreFillsBelow n k) → numbers_built classes built fs ≡ r → AreFillsBelow n l
     by None r p q rest d = cc
     by (Some m) None p q rest d = cc
-    by (Some m) (Some k) p q rest d = λ g h. elim (subst (Among g) (sym (Some-same (record { hole = f.hole; ident = m } ∷ k) l q)) h) [
+    by (Some m) (Some k) p q rest d = λ g h. elim (subst (Among g) (sym (same_Some (record { hole = f.hole; ident = m } ∷ k) l q)) h) [
       | inl is ↦ subst (λ z. z.ident < n) is (below m (Among-built built (get_or classes f.ident 0) m p))
       | inr a ↦ rest k d g a
     ]

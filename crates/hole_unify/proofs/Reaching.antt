@@ -8,6 +8,9 @@ use Rattle.std.specs.Str.{bytes_eq}
 use Rattle.std.proofs.lemmas.Cmp.{nat_list_cmp_total}
 use Rattle.std.specs.declared.cmp.Ordering.{Ordering}
 use Rattle.std.specs.declared.cmp.Ordering.TheVariants.{Less, Equal, Greater}
+use Rattle.std.proofs.lemmas.Option.{same_Some}
+use Rattle.bp_base.proofs.Sets.{among-left, among-right, among-either}
+use Rattle.bp_base.proofs.Idents.{Module-is, Hole-not-Module}
 use Rattle.bp_base.specs.declared.ident.Ident.{Ident}
 use Rattle.bp_base.specs.declared.ident.Ident.TheVariants.{Hole, Module, Module'}
 use Rattle.bp_base.specs.declared.ident.Unit.{Unit as OfUnit, out-Unit}
@@ -24,8 +27,7 @@ use Rattle.hole_unify.specs.Classes.{Same, Itself, Reaches, Next, Through}
 use Rattle.hole_unify.specs.Table.{class_at}
 use Rattle.hole_unify.specs.Tables.{In, IsTable}
 use Rattle.hole_unify.specs.Reach.{class_edge, fill_edge, fills_edges, term_edges, edges_of, holds, next_reached, with_one, reached, on_cycle, before, lesser, least_from}
-use Rattle.hole_unify.proofs.Terms.{Module-is, Hole-not-Module}
-use Rattle.hole_unify.proofs.Tables.{Among-left, Among-right, Among-cases, Some-same, class_at-found, sound-In}
+use Rattle.hole_unify.proofs.Tables.{class_at-found, sound-In}
 use Rattle.hole_unify.specs.Close.{IsSettled}
 use Rattle.hole_unify.proofs.Gaps.{settled-same, fill-class}
 use denote.Hole.Carrier.{hidden}
@@ -58,7 +60,7 @@ module _ (nodes : List Node) where
 
   fills_edges-say : (k : ℕ) (u : OfUnit) (m : Text) (e : Edge) (fs : List Fill) → In nodes (Module u m) k → Among e (fills_edges nodes k (out-Unit u).fills fs) → IsEdge nodes e
   fills_edges-say k u m e [] p a = absurd a
-  fills_edges-say k u m e (f ∷ fs) p a = elim (Among-cases e (fill_edge nodes k (found f.hole (out-Unit u).fills)) _ a) [
+  fills_edges-say k u m e (f ∷ fs) p a = elim (among-either e (fill_edge nodes k (found f.hole (out-Unit u).fills)) _ a) [
     | inl b ↦ fill_edge-says k u m f.hole e (found f.hole (out-Unit u).fills) p refl b
     | inr c ↦ fills_edges-say k u m e fs p c
   ]
@@ -69,7 +71,7 @@ module _ (nodes : List Node) where
 
   edges-say : (rest : List Node) (e : Edge) → ((x : Node) → Among x rest → Among x nodes) → Among e (edges_of nodes rest) → IsEdge nodes e
   edges-say [] e inside a = absurd a
-  edges-say (x ∷ rest) e inside a = elim (Among-cases e (term_edges nodes x.class x.ident) _ a) [
+  edges-say (x ∷ rest) e inside a = elim (among-either e (term_edges nodes x.class x.ident) _ a) [
     | inl b ↦ term_edges-say x.class x.ident e (x, inside x (inl refl), refl, refl) b
     | inr c ↦ edges-say rest e (λ y h. inside y (inr h)) c
   ]
@@ -87,15 +89,15 @@ module _ (nodes : List Node) where
       by : (b : Bool) → bytes_eq x.hole h ≡ b → cond b (Some x.ident) (found h fs) ≡ Some j → (found h fs ≡ Some j → Among edge (fills_edges nodes k all fs)) → Among edge (fills_edges nodes k all (x ∷ fs))
       by true d e r =
           let here : found x.hole all ≡ Some i = ap (λ n. found n all) (same_texts x.hole h d) ∙ g in
-          Among-left edge (fill_edge nodes k (found x.hole all)) _ (subst (λ o. Among edge (fill_edge nodes k o)) (sym here) (subst (λ o. Among edge (class_edge k o)) (sym c) (inl refl)))
-      by false d e r = Among-right edge (fill_edge nodes k (found x.hole all)) _ (r e)
+          among-left edge (fill_edge nodes k (found x.hole all)) _ (subst (λ o. Among edge (fill_edge nodes k o)) (sym here) (subst (λ o. Among edge (class_edge k o)) (sym c) (inl refl)))
+      by false d e r = among-right edge (fill_edge nodes k (found x.hole all)) _ (r e)
 
   edges-have : (rest : List Node) (x : Node) (u : OfUnit) (m h : Text) (i : Ident) (l : ℕ) → Among x rest → x.ident ≡ Module u m → found h (out-Unit u).fills ≡ Some i → class_at i nodes ≡ Some l → Among (record { from = x.class; to = l }) (edges_of nodes rest)
   edges-have [] x u m h i l a is f c = absurd a
   edges-have (y ∷ rest) x u m h i l (inl e) is f c =
       let here : Among (record { from = x.class; to = l }) (term_edges nodes x.class x.ident) = subst (λ t. Among (record { from = x.class; to = l }) (term_edges nodes x.class t)) (sym is) (subst (λ es. Among (record { from = x.class; to = l }) es) (sym (term_edges-Module x.class u m)) (fills_edges-has x.class l (out-Unit u).fills (out-Unit u).fills h i i f f c)) in
-      Among-left _ (term_edges nodes y.class y.ident) _ (subst (λ z. Among (record { from = x.class; to = l }) (term_edges nodes z.class z.ident)) (sym e) here)
-  edges-have (y ∷ rest) x u m h i l (inr a) is f c = Among-right _ (term_edges nodes y.class y.ident) _ (edges-have rest x u m h i l a is f c)
+      among-left _ (term_edges nodes y.class y.ident) _ (subst (λ z. Among (record { from = x.class; to = l }) (term_edges nodes z.class z.ident)) (sym e) here)
+  edges-have (y ∷ rest) x u m h i l (inr a) is f c = among-right _ (term_edges nodes y.class y.ident) _ (edges-have rest x u m h i l a is f c)
 
   pub edge-has : (u : OfUnit) (m h : Text) (k l : ℕ) (i : Ident) → In nodes (Module u m) k → found h (out-Unit u).fills ≡ Some i → class_at i nodes ≡ Some l → Among (record { from = k; to = l }) (edges_of nodes nodes)
   edge-has u m h k l i (x, a, is, c) f d = subst (λ z. Among (record { from = z; to = l }) (edges_of nodes nodes)) c (edges-have nodes x u m h i l a is f d)
@@ -165,7 +167,7 @@ module _ (k : ℕ) (all : List Edge) where
   next-says (x ∷ es) done n inside e = by ((nat_eq x.from k || holds x.from done) && not (holds x.to done)) refl e (next-says es done n (λ y h. inside y (inr h)))
     where
       by : (b : Bool) → (nat_eq x.from k || holds x.from done) && not (holds x.to done) ≡ b → cond b (Some x.to) (next_reached k done es) ≡ Some n → (next_reached k done es ≡ Some n → IsNext done n) → IsNext done n
-      by true t f r = let s = test-says x done t in record { edge = x; among = inside x (inl refl); from = s.0; new = s.1; to = Some-same x.to n f }
+      by true t f r = let s = test-says x done t in record { edge = x; among = inside x (inl refl); from = s.0; new = s.1; to = same_Some x.to n f }
       by false t f r = r f
 
   next-none : (es : List Edge) (done : List ℕ) → next_reached k done es ≡ None → (e : Edge) → Among e es → (e.from ≡ k) ⊎ Among e.from done → Among e.to done
@@ -187,7 +189,7 @@ module _ (k : ℕ) (all : List Edge) where
 
       with : (o : Option ℕ) → next_reached k done all ≡ o → (m : ℕ) → Among m (with_one done o) → Path all k m
       with None e m h = so m h
-      with (Some p) e m h = elim (Among-cases m done (p ∷ []) h) [ inl b ↦ so m b | inr c ↦ elim c [ inl i ↦ subst (Path all k) i (step p (next-says all done p (λ x y. y) e)) | inr f ↦ absurd f ] ]
+      with (Some p) e m h = elim (among-either m done (p ∷ []) h) [ inl b ↦ so m b | inr c ↦ elim c [ inl i ↦ subst (Path all k) i (step p (next-says all done p (λ x y. y) e)) | inr f ↦ absurd f ] ]
 
   abbrev open_one : Bool → ℕ
   open_one true = 0
@@ -199,7 +201,7 @@ module _ (k : ℕ) (all : List Edge) where
   left (e ∷ es) done = open_one (holds e.to done) + left es done
 
   holds-more : (n m : ℕ) (done : List ℕ) → holds n done ≡ true → holds n (done ++ m ∷ []) ≡ true
-  holds-more n m done h = holds-has n (done ++ m ∷ []) (Among-left n done (m ∷ []) (holds-says n done h))
+  holds-more n m done h = holds-has n (done ++ m ∷ []) (among-left n done (m ∷ []) (holds-says n done h))
 
   one-less : (e : Edge) (done : List ℕ) (n : ℕ) → open_one (holds e.to (done ++ n ∷ [])) ≤ open_one (holds e.to done)
   one-less e done n = by (holds e.to done) refl (holds e.to (done ++ n ∷ [])) refl
@@ -219,7 +221,7 @@ module _ (k : ℕ) (all : List Edge) where
   left-falls [] done n x h p is = absurd h
   left-falls (e ∷ es) done n x (inl i) p is =
       let old : open_one (holds e.to done) ≡ 1 = ap open_one (ap (λ z. holds z.to done) i ∙ p) in
-      let new : open_one (holds e.to (done ++ n ∷ [])) ≡ 0 = ap open_one (holds-has e.to (done ++ n ∷ []) (Among-right e.to done (n ∷ []) (inl (sym (ap (λ z. z.to) i ∙ is))))) in
+      let new : open_one (holds e.to (done ++ n ∷ [])) ≡ 0 = ap open_one (holds-has e.to (done ++ n ∷ []) (among-right e.to done (n ∷ []) (inl (sym (ap (λ z. z.to) i ∙ is))))) in
       let b = left-less es done n in omega (arith, old, new, b)
   left-falls (e ∷ es) done n x (inr h) p is = let a = one-less e done n in let b = left-falls es done n x h p is in omega (arith, a, b)
 
@@ -335,29 +337,29 @@ lesser-one (Some y) (Some x) n e = by (slice_cmp nat_cmp x y) e
 lesser-first : (best new : Option Text) (n m : Text) → lesser best new ≡ Some n → (best ≡ Some m) ⊎ (new ≡ Some m) → Before m n → ⊥
 lesser-first None None n m e (inl f) b = cc
 lesser-first None None n m e (inr f) b = cc
-lesser-first (Some y) None n m e (inl f) b = not_before_itself n (subst (λ z. Before z n) (Some-same m n (sym f ∙ e)) b)
+lesser-first (Some y) None n m e (inl f) b = not_before_itself n (subst (λ z. Before z n) (same_Some m n (sym f ∙ e)) b)
 lesser-first (Some y) None n m e (inr f) b = cc
 lesser-first None (Some x) n m e (inl f) b = cc
-lesser-first None (Some x) n m e (inr f) b = not_before_itself n (subst (λ z. Before z n) (Some-same m n (sym f ∙ e)) b)
+lesser-first None (Some x) n m e (inr f) b = not_before_itself n (subst (λ z. Before z n) (same_Some m n (sym f ∙ e)) b)
 lesser-first (Some y) (Some x) n m e o b = by (slice_cmp nat_cmp x y) refl e o
   where
     itself : (z : Text) → Some z ≡ Some n → Some z ≡ Some m → ⊥
-    itself z f g = not_before_itself n (subst (λ v. Before v n) (Some-same m n (sym g ∙ f)) b)
+    itself z f g = not_before_itself n (subst (λ v. Before v n) (same_Some m n (sym g ∙ f)) b)
 
     by : (c : Ordering) → slice_cmp nat_cmp x y ≡ c → Some (before c x y) ≡ Some n → (Some y ≡ Some m) ⊎ (Some x ≡ Some m) → ⊥
-    by Less d f (inl g) = not_before_itself y (Before-transitive y x y (subst (λ v. Before y v) (sym (Some-same x n f)) (subst (λ v. Before v n) (sym (Some-same y m g)) b)) d)
+    by Less d f (inl g) = not_before_itself y (Before-transitive y x y (subst (λ v. Before y v) (sym (same_Some x n f)) (subst (λ v. Before v n) (sym (same_Some y m g)) b)) d)
     by Less d f (inr g) = itself x f g
     by Equal d f (inl g) = itself y f g
     by Equal d f (inr g) = itself y f (ap Some (sym (tied_texts x y d)) ∙ g)
     by Greater d f (inl g) = itself y f g
     by Greater d f (inr g) =
-        let under : Before x y = subst (λ v. Before x v) (sym (Some-same y n f)) (subst (λ v. Before v n) (sym (Some-same x m g)) b) in
+        let under : Before x y = subst (λ v. Before x v) (sym (same_Some y n f)) (subst (λ v. Before v n) (sym (same_Some x m g)) b) in
         let clash : Less ≡ Greater = sym under ∙ d in cc
 
 least-is : (os : List (Option Text)) (best : Option Text) (n : Text) → least_from best os ≡ Some n → IsLeast best os n
 least-is [] best n e = record {
   given = inl e;
-  first = λ m o b. elim o [ inl f ↦ not_before_itself n (subst (λ z. Before z n) (Some-same m n (sym f ∙ e)) b) | inr a ↦ absurd a ];
+  first = λ m o b. elim o [ inl f ↦ not_before_itself n (subst (λ z. Before z n) (same_Some m n (sym f ∙ e)) b) | inr a ↦ absurd a ];
 }
 least-is (o ∷ os) best n e =
     let r = least-is os (lesser best o) n e in

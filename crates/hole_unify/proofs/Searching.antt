@@ -2,16 +2,17 @@
 use Rattle.std.proofs.Common.{◌≡◌, ◌≢◌, ℕ, zero, suc, ◌+◌, ◌<◌, ◌≤◌, Bool, true, false, ◌||◌, cond, nat_eq, List, [], ◌∷◌, ◌++◌, length, map, get_or, set, take, drop, ◌⊎◌, inl, inr, refl, ap, sym, ◌∙◌, subst, arith, length-append}
 use Rattle.std.proofs.Math.ListN.{get_or-append, get_or-map}
 use Rattle.std.proofs.Math.Seq.{get_or-append_seam}
-use Rattle.std.proofs.lemmas.List.{take_more, take_all, take-append-le, get_or-set_same, get_or-set_other, length-set, get_or-replicate, length-replicate, length-map}
+use Rattle.std.proofs.lemmas.List.{take_more, take_all, take-append-le, get_or-set_same, get_or-set_other, length-set, length-map}
 use Rattle.std.proofs.lemmas.Bool.{eqb-true, eq-eqb}
 use Rattle.std.specs.Prelude.{Option, Some, slice_get, replicate}
+use Rattle.bp_base.proofs.Sets.{among-left, among-right, among-either}
 use Rattle.bp_base.specs.Texts.{Text}
 use Rattle.bp_base.specs.declared.ident.Ident.{Ident}
 use Rattle.hole_unify.specs.Table.{nodes_of}
 use Rattle.bp_base.specs.Lists.{Among}
 use Rattle.hole_unify.specs.declared.edge.Edge.{Edge}
 use Rattle.hole_unify.specs.Reach.{ends_of, ends_upto, free, AreBelow, Agree, visited, all_visited, IsReached, holds, on_cycle, lesser, least_from, term_cycle, hole_cycle}
-use Rattle.hole_unify.proofs.Tables.{Among-left, Among-right, Among-cases, Among-get_or, Among-read}
+use Rattle.hole_unify.proofs.Tables.{Among-get_or, Among-read}
 use Rattle.hole_unify.proofs.Edges.{nodes-front, nodes-end}
 use Rattle.hole_unify.proofs.Reaching.{Path, First, Then, holds-says, holds-has, path-cycle, cycle-path}
 
@@ -78,7 +79,7 @@ item-ends f l i x is = ap f is ∙ sym (get_or-map f l i x)
 -- edges to classes below a number
 upto-below : (n c : ℕ) (es : List Edge) → ((e : Edge) → Among e es → e.to < c) → AreBelow c (ends_upto n es)
 upto-below zero c es below ks h k a = absurd h
-upto-below (suc n) c es below ks h k a = elim (Among-cases ks (ends_upto n es) (ends_of n es ∷ []) h) [
+upto-below (suc n) c es below ks h k a = elim (among-either ks (ends_upto n es) (ends_of n es ∷ []) h) [
   | inl g ↦ upto-below n c es below ks g k a
   | inr g ↦ elim g [
     | inl is ↦ let s = ends-say n es k (subst (λ l. Among k l) (sym is) a) in subst (λ z. z < c) s.to (below s.edge s.among)
@@ -96,21 +97,21 @@ visited-grows done k n h = by (holds k done)
   where
     by : (b : Bool) → Among n (cond b done (done ++ k ∷ []))
     by true = h
-    by false = Among-left n done (k ∷ []) h
+    by false = among-left n done (k ∷ []) h
 
 visited-has : (done : List ℕ) (k : ℕ) → Among k (visited done k)
 visited-has done k = by (holds k done) refl
   where
     by : (b : Bool) → holds k done ≡ b → Among k (cond b done (done ++ k ∷ []))
     by true e = holds-says k done e
-    by false e = Among-right k done (k ∷ []) (inl refl)
+    by false e = among-right k done (k ∷ []) (inl refl)
 
 visited-says : (done : List ℕ) (k n : ℕ) → Among n (visited done k) → Among n done ⊎ (k ≡ n)
 visited-says done k n = by (holds k done)
   where
     by : (b : Bool) → Among n (cond b done (done ++ k ∷ [])) → Among n done ⊎ (k ≡ n)
     by true h = inl h
-    by false h = elim (Among-cases n done (k ∷ []) h) [ inl a ↦ inl a | inr b ↦ elim b [ inl e ↦ inr e | inr f ↦ absurd f ] ]
+    by false h = elim (among-either n done (k ∷ []) h) [ inl a ↦ inl a | inr b ↦ elim b [ inl e ↦ inr e | inr f ↦ absurd f ] ]
 
 visited-longer : (done : List ℕ) (k : ℕ) → length done ≤ length (visited done k)
 visited-longer done k = by (holds k done)
@@ -174,16 +175,10 @@ agree-more marks done n lt a k below = by (nat_eq n k) refl
     by true e =
         let is : n ≡ k = eqb-true n k e in
         subst (λ z. get_or (set marks n true) z false ≡ holds z (done ++ n ∷ [])) is
-        (get_or-set_same marks n true false lt ∙ sym (holds-has n (done ++ n ∷ []) (Among-right n done (n ∷ []) (inl refl))))
+        (get_or-set_same marks n true false lt ∙ sym (holds-has n (done ++ n ∷ []) (among-right n done (n ∷ []) (inl refl))))
     by false e =
         let apart : k ≢ n = (λ q. let f : true ≡ false = sym (eq-eqb n k (sym q)) ∙ e in cc) in
         get_or-set_other marks n k true false apart ∙ a k within ∙ sym (holds-append k done n ∙ ap (λ b. holds k done || b) e ∙ or-false (holds k done))
-
-pub agree-none : (n : ℕ) → Agree (replicate n false) []
-agree-none n k below = by (length-replicate n false)
-  where
-    by : length (replicate n false) ≡ n → get_or (replicate n false) k false ≡ false
-    by l = get_or-replicate n k false false (omega (arith, l, below))
 
 pub free-less : (marks : List Bool) (n : ℕ) → n < length marks → get_or marks n false ≡ false → free (set marks n true) + 1 ≡ free marks
 free-less [] n lt e = absurd (omega (arith, lt))
@@ -195,13 +190,6 @@ free-less (false ∷ marks) (suc n) lt e = let r = free-less marks n (omega (ari
 pub free-none : (n : ℕ) → free (replicate n false) ≡ n
 free-none zero = refl
 free-none (suc n) = let r = free-none n in omega (arith, r)
-
--- a class that is marked, or is not
-pub visited-marked : (done : List ℕ) (k : ℕ) (b : Bool) → b ≡ holds k done → b ≡ true → done ≡ visited done k
-visited-marked done k b is e = ap (λ z. cond z done (done ++ k ∷ [])) (sym e ∙ is)
-
-pub visited-new : (done : List ℕ) (k : ℕ) (b : Bool) → b ≡ holds k done → b ≡ false → done ++ k ∷ [] ≡ visited done k
-visited-new done k b is e = ap (λ z. cond z done (done ++ k ∷ [])) (sym e ∙ is)
 
 -- ---- the search
 
@@ -252,7 +240,7 @@ search-step lists start done next class ks under s lt is at = record {
 
     closed : (es : List Edge) → lists ≡ ends_upto (length lists) es → (e : Edge) → Among e es → (e.from ≡ start) ⊎ Among e.from (take (next + 1) (all_visited done ks)) → Among e.to (all_visited done ks)
     closed es l e a (inl f) = all-grows ks done e.to (s.closed es l e a (inl f))
-    closed es l e a (inr h) = elim (Among-cases e.from (take next done) (class ∷ []) (subst (λ z. Among e.from z) front h)) [
+    closed es l e a (inr h) = elim (among-either e.from (take next done) (class ∷ []) (subst (λ z. Among e.from z) front h)) [
       | inl b ↦ all-grows ks done e.to (s.closed es l e a (inr b))
       | inr b ↦ elim b [
         | inl f ↦ all-has ks done e.to (subst (λ z. Among e.to z) (sym (ends-at lists es class ks l (s.below class here) at)) (ends-has class es e a (sym f)))

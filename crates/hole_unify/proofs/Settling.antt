@@ -2,7 +2,8 @@
 use Rattle.std.proofs.Common.{◌≡◌, ℕ, ◌<◌, ◌≤◌, Bool, true, false, cond, List, ◌++◌, length, take, drop, append-nil, map, refl, ap, sym, ◌∙◌, subst, arith}
 use Rattle.std.specs.Prelude.{Option, Some, None}
 use Rattle.std.proofs.lemmas.List.{take_all, drop_all}
-use Rattle.std.proofs.lemmas.Option.{slice_get_within}
+use Rattle.std.proofs.lemmas.Option.{slice_get_within, same_Some}
+use Rattle.bp_base.proofs.Sets.{among-map, among-image}
 use Rattle.bp_base.specs.declared.ident.Ident.{Ident}
 use Rattle.bp_base.specs.declared.ident.Ident.TheVariants.{Hole, Module'}
 use Rattle.bp_base.specs.Lists.{Among}
@@ -17,7 +18,7 @@ use Rattle.hole_unify.specs.Tables.{In}
 use Rattle.hole_unify.specs.Close.{IsSettled}
 use Rattle.hole_unify.specs.Reach.{edges_of, on_cycle, term_cycle, hole_cycle, least_cycle}
 use Rattle.hole_unify.specs.Solve.{IsFree}
-use Rattle.hole_unify.proofs.Tables.{Among-map, Among-mapped, Some-same, class_at-found}
+use Rattle.hole_unify.proofs.Tables.{class_at-found}
 use Rattle.hole_unify.proofs.Gaps.{settled-heads}
 use Rattle.hole_unify.proofs.Numbering.{Among-place, nodes_of-length, place-node, place-ident_of}
 use Rattle.hole_unify.proofs.Reaching.{edge-says, cycle-listed, listed-cycle, least-of}
@@ -29,18 +30,18 @@ term-cycle all k (Module' s r m) n e = cc
 term-cycle all k (Hole m) n e = by (on_cycle k all) refl
   where
     by : (b : Bool) → on_cycle k all ≡ b → (Hole m ≡ Hole n) × (on_cycle k all ≡ true)
-    by true d = (ap Hole (Some-same m n (ap (λ b. cond b (Some m) None) (sym d) ∙ e)), d)
+    by true d = (ap Hole (same_Some m n (ap (λ b. cond b (Some m) None) (sym d) ∙ e)), d)
     by false d = let f : None ≡ Some n = ap (λ b. cond b (Some m) None) (sym d) ∙ e in cc
 
 pub cycle-among : (all : List Edge) (nodes : List Node) (n : Text) (k : ℕ) → In nodes (Hole n) k → on_cycle k all ≡ true → Among (Some n) (map (hole_cycle all) nodes)
 cycle-among all nodes n k (x, h, i, c) e =
     let is : hole_cycle all x ≡ Some n = ap (term_cycle all x.class) i ∙ ap (λ b. cond b (Some n) None) (ap (λ z. on_cycle z all) c ∙ e) in
-    subst (λ o. Among o (map (hole_cycle all) nodes)) is (Among-map (hole_cycle all) x nodes h)
+    subst (λ o. Among o (map (hole_cycle all) nodes)) is (among-map (hole_cycle all) x nodes h)
 
 cycle-met : (es : List Equation) (nodes : List Node) (hole : Text) → IsSettled es nodes → least_cycle (edges_of nodes nodes) nodes ≡ Some hole → ((one other : Head) → HasHeads es one other → ⊥) × IsLeastCycle es hole
 cycle-met es nodes hole s e =
     let l = least-of (map (hole_cycle (edges_of nodes nodes)) nodes) hole e in
-    let x = Among-mapped (hole_cycle (edges_of nodes nodes)) (Some hole) nodes l.0 in
+    let x = among-image (hole_cycle (edges_of nodes nodes)) (Some hole) nodes l.0 in
     let c = term-cycle (edges_of nodes nodes) x.0.class x.0.ident hole x.2 in (
       settled-heads es nodes s,
       record {

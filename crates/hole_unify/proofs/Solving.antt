@@ -2,6 +2,7 @@
 use Rattle.std.proofs.Common.{◌≡◌, ℕ, ◌+◌, ◌-◌, ◌/◌, ◌<◌, ◌≤◌, List, [], ◌∷◌, ◌++◌, length, get_or, take, drop, map, inl, inr, refl, ap, sym, ◌∙◌, subst, arith}
 use Rattle.std.specs.Prelude.{Option, None, replicate}
 use Rattle.std.proofs.lemmas.List.{take-append-drop, take_more, take_all, length-replicate}
+use Rattle.bp_base.proofs.Sets.{among-left, among-right, among-either}
 use Rattle.bp_base.specs.declared.ident.Ident.{Ident}
 use Rattle.bp_base.specs.declared.ident.Unit.{Unit as OfUnit}
 use Rattle.bp_base.specs.Lists.{Among}
@@ -21,7 +22,6 @@ use Rattle.hole_unify.specs.Reach.{edges_of, hole_cycle, least_cycle}
 use Rattle.hole_unify.specs.Build.{built_of, first_ready, answer}
 use Rattle.hole_unify.specs.Stands.{Stands}
 use Rattle.hole_unify.specs.Solve.{IsFree, IsObstacle, IsFirst, IsRange, labelled}
-use Rattle.hole_unify.proofs.Tables.{Among-left, Among-right, Among-cases}
 use Rattle.hole_unify.proofs.Reaching.{path-cycle, least-of-none}
 use Rattle.hole_unify.proofs.Settling.{cycle-among}
 use Rattle.hole_unify.proofs.Places.{nodes-later}
@@ -55,11 +55,11 @@ no-unifier es (Cycle hole) h u = cycle_has_no_unifier es hole h.1.cycle u
 
 units-front : (a b : List Equation) (u : OfUnit) → Among u (units_in a) → Among u (units_in (a ++ b))
 units-front [] b u h = absurd h
-units-front (e ∷ a) b u h = elim (Among-cases u (units_of e.left) _ h) [
-  | inl x ↦ Among-left u (units_of e.left) _ x
-  | inr r ↦ Among-right u (units_of e.left) _ (elim (Among-cases u (units_of e.right) _ r) [
-    | inl y ↦ Among-left u (units_of e.right) _ y
-    | inr z ↦ Among-right u (units_of e.right) _ (units-front a b u z)
+units-front (e ∷ a) b u h = elim (among-either u (units_of e.left) _ h) [
+  | inl x ↦ among-left u (units_of e.left) _ x
+  | inr r ↦ among-right u (units_of e.left) _ (elim (among-either u (units_of e.right) _ r) [
+    | inl y ↦ among-left u (units_of e.right) _ y
+    | inr z ↦ among-right u (units_of e.right) _ (units-front a b u z)
   ])
 ]
 
@@ -102,16 +102,6 @@ range-start es o n is h = record {
 pub range-low : (es : List Equation) (r : Range) (n : ℕ) (table : List Ident) (classes : List ℕ) → IsLawful es → IsRange es r → r.low < n → n < r.high → IsFree (take n es) table classes
     → IsRange es (record { low = n; high = r.high; obstacle = r.obstacle })
 range-low es r n table classes lawful ok lt gt f = record { below = gt; within = ok.within; unified = has-unifier (take n es) (nodes_of table classes) (lawful-take es n lawful) f.settled f.acyclic; fails = ok.fails }
-
-pub range-high : (es : List Equation) (r : Range) (n : ℕ) (o : Obstacle) → IsRange es r → r.low < n → n < r.high → IsObstacle (take n es) o → IsRange es (record { low = r.low; high = n; obstacle = o })
-range-high es r n o ok lt gt h = record { below = lt; within = let w = ok.within in omega (arith, w, gt); unified = ok.unified; fails = h }
-
-pub range-end : (es : List Equation) (r : Range) → IsRange es r → r.high ≤ r.low + 1 → IsFirst es r.low r.obstacle
-range-end es r ok le = record {
-  within = let b = ok.below in let w = ok.within in omega (arith, b, w);
-  unified = ok.unified;
-  fails = let b = ok.below in let e : r.high ≡ r.low + 1 = omega (arith, b, le) in subst (λ n. IsObstacle (take n es) r.obstacle) e ok.fails;
-}
 
 pub half-low : (es : List Equation) (r : Range) (table : List Ident) (classes : List ℕ) → IsLawful es → IsRange es r → r.low + 1 < r.high → IsFree (take (r.low + (r.high - r.low) / 2) es) table classes
     → IsRange es (record { low = r.low + (r.high - r.low) / 2; high = r.high; obstacle = r.obstacle })

@@ -2,10 +2,11 @@
 use Rattle.std.proofs.Common.{◌≡◌, ℕ, zero, suc, ◌+◌, ◌<◌, ◌≤◌, Bool, true, false, ◌&&◌, ◌||◌, cond, nat_eq, List, [], ◌∷◌, ◌++◌, length, get_or, set, drop, map, inl, inr, refl, ap, sym, ◌∙◌, subst, arith, append_assoc}
 use Rattle.std.proofs.lemmas.Bool.{eqb-true, eq-eqb}
 use Rattle.std.proofs.lemmas.List.{map-set, length-set, length-map, length-replicate}
-use Rattle.std.proofs.lemmas.Option.{get_or_from_slice_get, slice_get_within}
+use Rattle.std.proofs.lemmas.Option.{get_or_from_slice_get, slice_get_within, same_Some}
 use Rattle.std.proofs.Math.Seq.{drop-length}
 use Rattle.std.specs.Prelude.{Option, Some, None, slice_get, replicate}
 use Rattle.std.specs.Option.{option_map, option_or}
+use Rattle.ident_table.proofs.Nodes.{Grows-not, Grows-again, Grows-longer}
 use Rattle.bp_base.specs.declared.ident.Ident.{Ident}
 use Rattle.bp_base.specs.declared.ident.Ident.TheVariants as ident
 use Rattle.bp_base.specs.declared.ident.Ident.TheViews.{roll-Unit, out-roll-Unit}
@@ -22,14 +23,13 @@ use Rattle.hole_unify.specs.Table.{Node, is_module, nodes_of}
 use Rattle.hole_unify.specs.Tables.{IsTable}
 use Rattle.hole_unify.specs.Stands.{Stands}
 use Rattle.hole_unify.specs.Reach.{lesser, least_from}
-use Rattle.hole_unify.specs.Build.{number_built, built_of, AreBuiltBelow, fills_built, module_of, has_module, class_hole, hole_ready, term_ready, entry_of, node_ready, first_ready}
-use Rattle.hole_unify.specs.Stages.{node_at, hole_at, built_for, with_number, numbers_built, numbers_fronted, made_of, ready_ident, ready_entry, IsReadyBelow, unbuilt_classes, IsStage, Follows, Steps}
-use Rattle.hole_unify.proofs.Steps.{front_of}
-use Rattle.hole_unify.proofs.Tables.{Some-same, Among-drop, Among-get_or}
+use Rattle.hole_unify.specs.Build.{number_built, built_of, AreBuiltBelow, fills_built, module_of, has_module, class_hole, hole_ready, term_ready, node_ready, first_ready}
+use Rattle.hole_unify.specs.Stages.{node_at, hole_at, with_number, numbers_built, numbers_fronted, made_of, ready_ident, ready_entry, IsReadyBelow, unbuilt_classes, IsStage, Follows, Steps}
+use Rattle.hole_unify.proofs.Tables.{Among-drop, Among-get_or}
 use Rattle.hole_unify.proofs.Units.{not-both}
 use Rattle.hole_unify.proofs.Building.{IsReady, node-ready, stands-put, no-entries}
 use Rattle.hole_unify.proofs.Grounded.{term_ready-Module}
-use Rattle.hole_unify.proofs.Places.{node-front, nodes-later, length-later, grows-none, grows-more, built-at, built-later, below-later, below-set, fills-built, numbers-below}
+use Rattle.hole_unify.proofs.Places.{node-front, nodes-later, built-at, built-later, below-later, below-set, fills-built, numbers-below}
 use Rattle.hole_unify.proofs.Numbering.{nodes_of-length}
 
 -- ---- the end of a list
@@ -83,20 +83,6 @@ fronted-more : (first : List NumberFill) (f : NumberFill) (o : Option (List Numb
 fronted-more first f None = refl
 fronted-more first f (Some fs) = ap Some (append_assoc first (f ∷ []) fs)
 
-pub fill-step : (classes : List ℕ) (built : List (Option ℕ)) (fills : List NumberFill) (i : ℕ) (x : NumberFill) (n : ℕ) (all : List NumberFill) (last : Option (List NumberFill)) → i < length fills → x ≡ get_or fills i x
-    → built_for classes built x.ident ≡ Some n → numbers_fronted all (numbers_built classes built (drop i fills)) ≡ last
-    → numbers_fronted (all ++ record { hole = x.hole; ident = n } ∷ []) (numbers_built classes built (drop (i + 1) fills)) ≡ last
-fill-step classes built fills i x n all last lt is found so =
-    fronted-more all (record { hole = x.hole; ident = n }) (numbers_built classes built (drop (i + 1) fills))
-    ∙ ap (λ o. numbers_fronted all (with_number x.hole o (numbers_built classes built (drop (i + 1) fills)))) (sym found)
-    ∙ ap (λ l. numbers_fronted all (numbers_built classes built l)) (sym (front_of fills i x lt is)) ∙ so
-
-pub fill-none : (classes : List ℕ) (built : List (Option ℕ)) (fills : List NumberFill) (i : ℕ) (x : NumberFill) (all : List NumberFill) (last : Option (List NumberFill)) → i < length fills → x ≡ get_or fills i x
-    → built_for classes built x.ident ≡ None → numbers_fronted all (numbers_built classes built (drop i fills)) ≡ last → None ≡ last
-fill-none classes built fills i x all last lt is found so =
-    ap (λ o. numbers_fronted all (with_number x.hole o (numbers_built classes built (drop (i + 1) fills)))) (sym found)
-    ∙ ap (λ l. numbers_fronted all (numbers_built classes built l)) (sym (front_of fills i x lt is)) ∙ so
-
 -- ---- what a class is
 
 pub hole-found : (table : List Ident) (hole : Option ℕ) (ready : Option Ready) → ready ≡ option_map of.Hole hole → option_map (ready_ident table) ready ≡ number_built table hole
@@ -105,7 +91,7 @@ hole-found table (Some n) ready is = ap (option_map (ready_ident table)) is
 
 pub hole-below : (n : ℕ) (hole : Option ℕ) (ready : Option Ready) → ready ≡ option_map of.Hole hole → ((k : ℕ) → hole ≡ Some k → k < n) → (x : Ready) → ready ≡ Some x → IsReadyBelow n x
 hole-below n None ready is below x e = absurd (not-both ready x e is)
-hole-below n (Some k) ready is below x e = subst (IsReadyBelow n) (Some-same (of.Hole k) x (sym is ∙ e)) (below k refl)
+hole-below n (Some k) ready is below x e = subst (IsReadyBelow n) (same_Some (of.Hole k) x (sym is ∙ e)) (below k refl)
 
 -- a hole of a class
 pub hole-ready : (nodes : List Node) (built : List (Option Ident)) (k : ℕ) (i : Ident) (n : Text) → i ≡ ident.Hole n → hole_ready nodes k ≡ term_ready nodes built k i
@@ -137,27 +123,13 @@ module-below n classes built c m fs ready below made x e = by (numbers_built cla
   where
     by : (o : Option (List NumberFill)) → numbers_built classes built fs ≡ o → IsReadyBelow n x
     by None d = absurd (not-both ready x e (made ∙ ap (made_of c m) d))
-    by (Some l) d = subst (IsReadyBelow n) (Some-same (of.Module c l m) x (sym (made ∙ ap (made_of c m) d) ∙ e)) (numbers-below n classes built fs l below d)
+    by (Some l) d = subst (IsReadyBelow n) (same_Some (of.Module c l m) x (sym (made ∙ ap (made_of c m) d) ∙ e)) (numbers-below n classes built fs l below d)
 
 -- ---- a class that is not built
 
 number-none : (table : List Ident) (o : Option ℕ) → number_built table o ≡ None → o ≡ None
 number-none table None e = refl
 number-none table (Some n) e = cc
-
-pub new-ready : (table : List Ident) (classes : List ℕ) (built : List (Option ℕ)) (i : ℕ) (r : Option Ready) → built_for classes built i ≡ None
-    → option_map (ready_ident table) r ≡ term_ready (nodes_of table classes) (built_of table built) (get_or classes i 0) (ident_of table i)
-    → option_map (ready_entry table (get_or classes i 0)) r ≡ node_ready (nodes_of table classes) (built_of table built) (node_at table classes i)
-new-ready table classes built i r none is =
-    entry r ∙ (λ w. entry_of (get_or classes i 0) (sym (built-at table built (get_or classes i 0) ∙ ap (number_built table) none) w) (is w))
-  where
-    entry : (o : Option Ready) → option_map (ready_entry table (get_or classes i 0)) o ≡ entry_of (get_or classes i 0) None (option_map (ready_ident table) o)
-    entry None = refl
-    entry (Some x) = refl
-
-pub old-ready : (table : List Ident) (classes : List ℕ) (built : List (Option ℕ)) (i n : ℕ) → built_for classes built i ≡ Some n → None ≡ node_ready (nodes_of table classes) (built_of table built) (node_at table classes i)
-old-ready table classes built i n is =
-    ap (λ o. entry_of (get_or classes i 0) o (term_ready (nodes_of table classes) (built_of table built) (get_or classes i 0) (ident_of table i))) (sym (built-at table built (get_or classes i 0) ∙ ap (number_built table) is))
 
 -- ---- one class more
 
@@ -183,7 +155,7 @@ module _ (table : List Ident) (classes : List ℕ) (built : List (Option ℕ)) (
 
   pub class-stage : IsStage later classes (set built (get_or classes i 0) (Some n))
   class-stage =
-      let longer = length-later table later grows in
+      let longer = Grows-longer table later grows in
       record {
         numbered = numbered;
         listed = omega (arith, longer, s.listed);
@@ -211,11 +183,11 @@ module _ (table : List Ident) (classes : List ℕ) (built : List (Option ℕ)) (
 -- ---- stages
 
 pub follows-itself : (classes : List ℕ) (table : List Ident) (built : List (Option ℕ)) → Follows classes table built table built
-follows-itself classes table built = record { grows = grows-none table; stands = λ es t st. st }
+follows-itself classes table built = record { grows = Grows-not table; stands = λ es t st. st }
 
 pub follows-more : (classes : List ℕ) (a b c : List Ident) (x y z : List (Option ℕ)) → length classes ≤ length a → Follows classes a x b y → Follows classes b y c z → Follows classes a x c z
 follows-more classes a b c x y z le f g = record {
-  grows = grows-more a b c f.grows g.grows;
+  grows = Grows-again a b c f.grows g.grows;
   stands = λ es t st.
       let same = nodes-later a b classes f.grows le in
       subst (λ l. Stands es l (built_of c z)) same (g.stands es (subst (IsTable es) (sym same) t) (subst (λ l. Stands es l (built_of b y)) (sym same) (f.stands es t st)));

@@ -1,5 +1,5 @@
 -- Look-ups in a table, and what joining classes keeps.
-use Rattle.std.proofs.Common.{◌≡◌, ℕ, zero, suc, ◌<◌, Bool, true, false, cond, nat_eq, List, [], ◌∷◌, ◌++◌, length, map, get_or, drop, ◌⊎◌, inl, inr, refl, ap, sym, ◌∙◌, subst, arith}
+use Rattle.std.proofs.Common.{◌≡◌, ℕ, zero, suc, ◌<◌, Bool, true, false, cond, nat_eq, List, [], ◌∷◌, ◌++◌, length, get_or, drop, ◌⊎◌, inl, inr, refl, ap, sym, ◌∙◌, subst, arith}
 use Rattle.std.proofs.lemmas.List.{length-map}
 use Rattle.std.proofs.lemmas.Bool.{eqb-true, eq-eqb}
 use Rattle.std.specs.Prelude.{Option, Some, None}
@@ -12,6 +12,10 @@ use Rattle.ident_table.specs.Parts.{terms_of, terms_below, terms_of_row, terms_i
 use Rattle.hole_unify.specs.Table.{is_same, class_at, terms_in, renumbered, renumbered_node, moved}
 use Rattle.hole_unify.specs.Tables.{In, One, IsTable}
 use Rattle.std.specs.Str.{bytes_eq}
+use Rattle.std.proofs.lemmas.Option.{same_Some}
+use Rattle.ident_table.proofs.Numbering.{terms_below-out}
+use Rattle.bp_base.proofs.Sets.{among-left, among-right, among-either, among-map, among-image}
+use Rattle.bp_base.proofs.Idents.{Module-is, Hole-not-Module}
 use Rattle.bp_base.specs.declared.ident.Ident.TheVariants.{Hole, Module, Module'}
 use Rattle.bp_base.specs.declared.ident.Unit.{Unit as OfUnit, Unit', out-Unit}
 use Rattle.bp_base.specs.declared.ident.Fill.{Fill}
@@ -19,33 +23,9 @@ use Rattle.bp_base.specs.declared.ident.Ident.TheBlock.{end_of-Unit, more_of-Uni
 use Rattle.bp_base.specs.Texts.{Text}
 use Rattle.unit_identity.specs.Fill.{found}
 use Rattle.hole_unify.proofs.Unifying.{Module-unit}
-use Rattle.hole_unify.proofs.Terms.{same_terms, terms_same, terms_below-out, Module-is, Hole-not-Module}
+use Rattle.hole_unify.proofs.Terms.{same_terms, terms_same}
 
 -- ---- items of lists
-
-pub Among-left : {A : Type 0} (x : A) (xs ys : List A) → Among x xs → Among x (xs ++ ys)
-Among-left x [] ys h = absurd h
-Among-left x (z ∷ xs) ys (inl e) = inl e
-Among-left x (z ∷ xs) ys (inr h) = inr (Among-left x xs ys h)
-
-pub Among-right : {A : Type 0} (x : A) (xs ys : List A) → Among x ys → Among x (xs ++ ys)
-Among-right x [] ys h = h
-Among-right x (z ∷ xs) ys h = inr (Among-right x xs ys h)
-
-pub Among-cases : {A : Type 0} (x : A) (xs ys : List A) → Among x (xs ++ ys) → Among x xs ⊎ Among x ys
-Among-cases x [] ys h = inr h
-Among-cases x (z ∷ xs) ys (inl e) = inl (inl e)
-Among-cases x (z ∷ xs) ys (inr h) = elim (Among-cases x xs ys h) [ inl a ↦ inl (inr a) | inr b ↦ inr b ]
-
-pub Among-map : {A B : Type 0} (f : A → B) (x : A) (xs : List A) → Among x xs → Among (f x) (map f xs)
-Among-map f x [] h = absurd h
-Among-map f x (z ∷ xs) (inl e) = inl (ap f e)
-Among-map f x (z ∷ xs) (inr h) = inr (Among-map f x xs h)
-
-pub Among-mapped : {A B : Type 0} (f : A → B) (y : B) (xs : List A) → Among y (map f xs) → (x : A) × Among x xs × (f x ≡ y)
-Among-mapped f y [] h = absurd h
-Among-mapped f y (z ∷ xs) (inl e) = (z, inl refl, e)
-Among-mapped f y (z ∷ xs) (inr h) = let k = Among-mapped f y xs h in (k.0, inr k.1, k.2)
 
 pub Among-get_or : {A : Type 0} (l : List A) (i : ℕ) (d : A) → i < length l → Among (get_or l i d) l
 Among-get_or [] i d lt = absurd (omega (arith, lt))
@@ -63,15 +43,12 @@ Among-drop x (y ∷ l) (suc i) h = inr (Among-drop x l i h)
 
 -- ---- looking up
 
-pub Some-same : {A : Type 0} (a b : A) → Some a ≡ Some b → a ≡ b
-Some-same a b e = cc
-
 pub class_at-found : (t : Ident) (nodes : List Node) (k : ℕ) → class_at t nodes ≡ Some k → In nodes t k
 class_at-found t [] k e = cc
 class_at-found t (x ∷ xs) k e = by (is_same x.ident t) refl e (class_at-found t xs k)
   where
     by : (b : Bool) → is_same x.ident t ≡ b → cond b (Some x.class) (class_at t xs) ≡ Some k → (class_at t xs ≡ Some k → In xs t k) → In (x ∷ xs) t k
-    by true d e r = (x, inl refl, same_terms x.ident t d, Some-same x.class k e)
+    by true d e r = (x, inl refl, same_terms x.ident t d, same_Some x.class k e)
     by false d e r = let y = r e in (y.0, inr y.1, y.2, y.3)
 
 pub class_at-none : (t : Ident) (nodes : List Node) → class_at t nodes ≡ None → (x : Node) → Among x nodes → x.ident ≡ t → ⊥
@@ -96,11 +73,11 @@ renumbered-cases from to p q = by (nat_eq p from) (nat_eq q from) refl refl
     by false false d e h = inl (sym (ap (λ b. cond b to p) d) ∙ h ∙ ap (λ b. cond b to q) e)
 
 pub In-moved : (nodes : List Node) (from to : ℕ) (t : Ident) (k : ℕ) → In nodes t k → In (moved from to nodes) t (renumbered from to k)
-In-moved nodes from to t k (x, h, i, c) = (renumbered_node from to x, Among-map (renumbered_node from to) x nodes h, i, ap (renumbered from to) c)
+In-moved nodes from to t k (x, h, i, c) = (renumbered_node from to x, among-map (renumbered_node from to) x nodes h, i, ap (renumbered from to) c)
 
 pub In-unmoved : (nodes : List Node) (from to : ℕ) (t : Ident) (k : ℕ) → In (moved from to nodes) t k → (l : ℕ) × In nodes t l × (renumbered from to l ≡ k)
 In-unmoved nodes from to t k (x, h, i, c) =
-    let y = Among-mapped (renumbered_node from to) x nodes h in
+    let y = among-image (renumbered_node from to) x nodes h in
     (y.0.class, (y.0, y.1, ap (λ v. v.ident) y.2 ∙ i, refl), ap (λ v. v.class) y.2 ∙ c)
 
 pub One-moved : (nodes : List Node) (from to : ℕ) (a b : Ident) → One nodes a b → One (moved from to nodes) a b
@@ -121,16 +98,13 @@ One-joined nodes from to a b p q =
 pub sound-In : (es : List Equation) (nodes : List Node) → IsTable es nodes → (a b : Ident) (k : ℕ) → In nodes a k → In nodes b k → Same es a b
 sound-In es nodes t a b k (x, h, i, c) (y, g, j, d) = subst (λ v. Same es v b) i (subst (λ v. Same es x.ident v) j (t.sound x y h g (c ∙ sym d)))
 
-pub One-same : (es : List Equation) (nodes : List Node) → IsTable es nodes → (a b : Ident) → One nodes a b → Same es a b
-One-same es nodes t a b o = sound-In es nodes t a b o.0 o.1 o.2
-
 pub moved-table : (es : List Equation) (nodes : List Node) (from to : ℕ) (a b : Ident) → In nodes a from → In nodes b to → Same es a b → IsTable es nodes → IsTable es (moved from to nodes)
 moved-table es nodes from to a b p q same t = record {
   listed = λ s h. let k = t.listed s h in (renumbered from to k.0, In-moved nodes from to s k.0 k.1);
-  only = λ x h. let y = Among-mapped (renumbered_node from to) x nodes h in subst (λ v. Among v (terms_in es)) (ap (λ v. v.ident) y.2) (t.only y.0 y.1);
+  only = λ x h. let y = among-image (renumbered_node from to) x nodes h in subst (λ v. Among v (terms_in es)) (ap (λ v. v.ident) y.2) (t.only y.0 y.1);
   one = λ s k l c d. let x = In-unmoved nodes from to s k c in let y = In-unmoved nodes from to s l d in sym x.2 ∙ ap (renumbered from to) (t.one s x.0 y.0 x.1 y.1) ∙ y.2;
-  below = λ x h. below x (Among-mapped (renumbered_node from to) x nodes h);
-  sound = λ x y h g e. sound x y (Among-mapped (renumbered_node from to) x nodes h) (Among-mapped (renumbered_node from to) y nodes g) e;
+  below = λ x h. below x (among-image (renumbered_node from to) x nodes h);
+  sound = λ x y h g e. sound x y (among-image (renumbered_node from to) x nodes h) (among-image (renumbered_node from to) y nodes g) e;
 }
   where
     below : (x : Node) → (v : Node) × Among v nodes × (renumbered_node from to v ≡ x) → x.class < length (moved from to nodes)
@@ -174,13 +148,13 @@ terms_of-self (Module' s (more_of-Unit u end_of-Unit) m) = inl (sym (Module-is s
 
 pub left-listed : (es : List Equation) (e : Equation) → Among e es → Among e.left (terms_in es)
 left-listed [] e h = absurd h
-left-listed (x ∷ es) e (inl is) = Among-left e.left (terms_of x.left) _ (subst (λ v. Among v.left (terms_of x.left)) is (terms_of-self x.left))
-left-listed (x ∷ es) e (inr h) = Among-right e.left (terms_of x.left) _ (Among-right e.left (terms_of x.right) _ (left-listed es e h))
+left-listed (x ∷ es) e (inl is) = among-left e.left (terms_of x.left) _ (subst (λ v. Among v.left (terms_of x.left)) is (terms_of-self x.left))
+left-listed (x ∷ es) e (inr h) = among-right e.left (terms_of x.left) _ (among-right e.left (terms_of x.right) _ (left-listed es e h))
 
 pub right-listed : (es : List Equation) (e : Equation) → Among e es → Among e.right (terms_in es)
 right-listed [] e h = absurd h
-right-listed (x ∷ es) e (inl is) = Among-right e.right (terms_of x.left) _ (Among-left e.right (terms_of x.right) _ (subst (λ v. Among v.right (terms_of x.right)) is (terms_of-self x.right)))
-right-listed (x ∷ es) e (inr h) = Among-right e.right (terms_of x.left) _ (Among-right e.right (terms_of x.right) _ (right-listed es e h))
+right-listed (x ∷ es) e (inl is) = among-right e.right (terms_of x.left) _ (among-left e.right (terms_of x.right) _ (subst (λ v. Among v.right (terms_of x.right)) is (terms_of-self x.right)))
+right-listed (x ∷ es) e (inr h) = among-right e.right (terms_of x.left) _ (among-right e.right (terms_of x.right) _ (right-listed es e h))
 
 -- ---- what is below a term is listed too
 
@@ -197,9 +171,9 @@ mutual
 
   below-row : {k : _} (r : Row_of-Fill k) (u : OfUnit) (m : Text) (i : Ident) → Among (Module u m) (terms_of_row r) → Among i (terms_in_fills (out-Unit u).fills) → Among i (terms_of_row r)
   below-row end_of-Fill u m i h g = absurd h
-  below-row (more_of-Fill n a r) u m i h g = elim (Among-cases (Module u m) (terms_of a) (terms_of_row r) h) [
-    | inl x ↦ Among-left i (terms_of a) _ (below-term a u m i x g)
-    | inr y ↦ Among-right i (terms_of a) _ (below-row r u m i y g)
+  below-row (more_of-Fill n a r) u m i h g = elim (among-either (Module u m) (terms_of a) (terms_of_row r) h) [
+    | inl x ↦ among-left i (terms_of a) _ (below-term a u m i x g)
+    | inr y ↦ among-right i (terms_of a) _ (below-row r u m i y g)
   ]
 
 found-listed : (n : Text) (fs : List Fill) (i : Ident) → found n fs ≡ Some i → Among i (terms_in_fills fs)
@@ -207,17 +181,17 @@ found-listed n [] i e = cc
 found-listed n (f ∷ fs) i e = by (bytes_eq f.hole n) e (found-listed n fs i)
   where
     by : (b : Bool) → cond b (Some f.ident) (found n fs) ≡ Some i → (found n fs ≡ Some i → Among i (terms_in_fills fs)) → Among i (terms_of f.ident ++ terms_in_fills fs)
-    by true d k = Among-left i (terms_of f.ident) _ (subst (λ v. Among v (terms_of f.ident)) (Some-same f.ident i d) (terms_of-self f.ident))
-    by false d k = Among-right i (terms_of f.ident) _ (k d)
+    by true d k = among-left i (terms_of f.ident) _ (subst (λ v. Among v (terms_of f.ident)) (same_Some f.ident i d) (terms_of-self f.ident))
+    by false d k = among-right i (terms_of f.ident) _ (k d)
 
 pub fill-listed : (es : List Equation) (u : OfUnit) (m n : Text) (i : Ident) → Among (Module u m) (terms_in es) → found n (out-Unit u).fills ≡ Some i → Among i (terms_in es)
 fill-listed [] u m n i h e = absurd h
 fill-listed (x ∷ es) u m n i h e =
     let g = found-listed n (out-Unit u).fills i e in
-    elim (Among-cases (Module u m) (terms_of x.left) _ h) [
-      | inl a ↦ Among-left i (terms_of x.left) _ (below-term x.left u m i a g)
-      | inr r ↦ Among-right i (terms_of x.left) _ (elim (Among-cases (Module u m) (terms_of x.right) _ r) [
-        | inl b ↦ Among-left i (terms_of x.right) _ (below-term x.right u m i b g)
-        | inr c ↦ Among-right i (terms_of x.right) _ (fill-listed es u m n i c e)
+    elim (among-either (Module u m) (terms_of x.left) _ h) [
+      | inl a ↦ among-left i (terms_of x.left) _ (below-term x.left u m i a g)
+      | inr r ↦ among-right i (terms_of x.left) _ (elim (among-either (Module u m) (terms_of x.right) _ r) [
+        | inl b ↦ among-left i (terms_of x.right) _ (below-term x.right u m i b g)
+        | inr c ↦ among-right i (terms_of x.right) _ (fill-listed es u m n i c e)
       ])
     ]

@@ -3,6 +3,7 @@ use Rattle.std.proofs.Common.{◌≡◌, ℕ, suc, ◌+◌, ◌<◌, ◌≤◌, 
 use Rattle.std.specs.Prelude.{Some}
 use Rattle.std.specs.Option.{option_map}
 use Rattle.std.specs.Str.{bytes_eq}
+use Rattle.std.proofs.lemmas.Option.{same_Some}
 use Rattle.bp_base.specs.declared.ident.Ident.{Ident}
 use Rattle.bp_base.specs.declared.ident.Ident.TheVariants.{Hole, Module, Module'}
 use Rattle.bp_base.specs.declared.ident.Unit.{Unit as OfUnit, Unit', out-Unit}
@@ -59,9 +60,6 @@ found-composed n (f ∷ fs) g = by (bytes_eq f.hole n) (found-composed n fs g)
     by true h = refl
     by false h = h
 
-Some-one : {A : Type 0} (a b : A) → Some a ≡ Some b → a ≡ b
-Some-one a b e = cc
-
 pub found-filled : (u : OfUnit) (g : List Fill) (n : List ℕ) (i : Ident) → found n (out-Unit u).fills ≡ Some i → found n (out-Unit (filled_unit u g)).fills ≡ Some (filled i g)
 found-filled u g n i h = ap (found n) (fills-filled u g) ∙ found-composed n (out-Unit u).fills g ∙ ap (option_map (λ x. filled x g)) h
 
@@ -79,7 +77,7 @@ Same-filled es g u a b (Turned x y s) = sym (Same-filled es g u x y s)
 Same-filled es g u a b (Joined x y z s t) = Same-filled es g u x y s ∙ Same-filled es g u y z t
 Same-filled es g u a b (AtHole v w m h i j c s p q) =
     let units : filled_unit v g ≡ filled_unit w g = Module-unit (filled_unit v g) (filled_unit w g) m m (sym (filled-Module v m g) ∙ Same-filled es g u (Module v m) (Module w m) s ∙ filled-Module w m g) in
-    Some-one (filled i g) (filled j g) (sym (found-filled v g h i p) ∙ ap (λ x. found h (out-Unit x).fills) units ∙ found-filled w g h j q)
+    same_Some (filled i g) (filled j g) (sym (found-filled v g h i p) ∙ ap (λ x. found h (out-Unit x).fills) units ∙ found-filled w g h j q)
 
 pub clash_has_no_unifier : (es : List Equation) (one other : Head) → HasHeads es one other → HasUnifier es → ⊥
 clash_has_no_unifier es one other h u = by h.class
@@ -127,7 +125,7 @@ found-lighter n [] i h = cc
 found-lighter n (f ∷ fs) i h = by (bytes_eq f.hole n) h (found-lighter n fs i)
   where
     by : (b : Bool) → cond b (Some f.ident) (found n fs) ≡ Some i → (found n fs ≡ Some i → weight i ≤ weights fs) → weight i ≤ weight f.ident + weights fs
-    by true h k = let e = ap weight (Some-one f.ident i h) in omega arith
+    by true h k = let e = ap weight (same_Some f.ident i h) in omega arith
     by false h k = let l = k h in omega arith
 
 pub Reaches-lighter : (es : List Equation) (g : List Fill) → IsUnifier es g → (a b : Ident) → Reaches es a b → weight (filled b g) < weight (filled a g)

@@ -1,10 +1,8 @@
 -- What is built from the classes of a table.
-use Rattle.std.specs.Prelude.{ℕ, ◌+◌, Bool, true, false, ◌&&◌, ◌||◌, List, [], ◌∷◌, ◌++◌, map, Option, Some, None, if◌then◌else◌, nat_eq, get_or, ◌<◌}
+use Rattle.std.specs.Prelude.{ℕ, ◌+◌, Bool, false, ◌&&◌, ◌||◌, List, [], ◌∷◌, ◌++◌, map, Option, Some, None, if◌then◌else◌, nat_eq, get_or, ◌<◌}
 use Rattle.std.specs.Option.{option_or}
-use Rattle.std.specs.Ordering.{nat_cmp}
+use Rattle.std.specs.Ordering.{nat_cmp, is_lt}
 use Rattle.std.specs.Cmp.Lexicographic.{slice_cmp}
-use Rattle.std.specs.declared.cmp.Ordering.{Ordering}
-use Rattle.std.specs.declared.cmp.Ordering.TheVariants.{Less, Equal, Greater}
 use Rattle.bp_base.specs.declared.ident.Ident.{Ident}
 use Rattle.bp_base.specs.declared.ident.Ident.TheVariants.{Hole, Module, Module'}
 use Rattle.bp_base.specs.declared.ident.Unit.{Unit as OfUnit, out-Unit}
@@ -107,19 +105,14 @@ first_ready nodes built (x ∷ rest) = option_or (node_ready nodes built x) (fir
 
 -- ---- the fills of the holes
 
-abbrev pub is_less : Ordering → Bool
-is_less Less = true
-is_less Equal = false
-is_less Greater = false
-
 -- how many fills come before a hole
 abbrev pub place : Text → List Fill → ℕ
 place h [] = 0
-place h (x ∷ xs) = if is_less (slice_cmp nat_cmp x.hole h) then place h xs + 1 else 0
+place h (x ∷ xs) = if is_lt (slice_cmp nat_cmp x.hole h) then place h xs + 1 else 0
 
 abbrev pub inserted : Fill → List Fill → List Fill
 inserted f [] = f ∷ []
-inserted f (x ∷ xs) = if is_less (slice_cmp nat_cmp x.hole f.hole) then x ∷ inserted f xs else f ∷ x ∷ xs
+inserted f (x ∷ xs) = if is_lt (slice_cmp nat_cmp x.hole f.hole) then x ∷ inserted f xs else f ∷ x ∷ xs
 
 abbrev pub put : Fill → Option Ident → List Fill → List Fill
 put f None fs = inserted f fs

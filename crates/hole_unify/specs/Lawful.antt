@@ -1,12 +1,11 @@
 -- The test of the condition on units.
 use Rattle.std.specs.Prelude.{Bool, true, false, ◌&&◌, ◌||◌, not, List, [], ◌∷◌, ◌++◌}
 use Rattle.std.specs.Str.{bytes_eq}
-use Rattle.std.specs.Ordering.{nat_cmp}
+use Rattle.std.specs.Ordering.{nat_cmp, is_lt}
 use Rattle.std.specs.Cmp.Lexicographic.{slice_cmp}
 use Rattle.bp_base.specs.declared.ident.Unit.{Unit as OfUnit, out-Unit}
 use Rattle.bp_base.specs.declared.ident.Fill.{Fill}
 use Rattle.bp_base.specs.Texts.{Text}
-use Rattle.hole_unify.specs.Build.{is_less}
 use Rattle.hole_unify.specs.Causes.{units_of}
 
 abbrev pub units_in_fills : List Fill → List OfUnit
@@ -21,7 +20,7 @@ same_holes (x ∷ xs) (y ∷ ys) = bytes_eq x.hole y.hole && same_holes xs ys
 
 abbrev pub rise_after : Text → List Fill → Bool
 rise_after h [] = true
-rise_after h (x ∷ xs) = is_less (slice_cmp nat_cmp h x.hole) && rise_after x.hole xs
+rise_after h (x ∷ xs) = is_lt (slice_cmp nat_cmp h x.hole) && rise_after x.hole xs
 
 abbrev pub rises : List Fill → Bool
 rises [] = true

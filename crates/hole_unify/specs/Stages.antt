@@ -1,6 +1,6 @@
 -- Building by numbers of a table, and answers by numbers.
 use Rattle.std.specs.Prelude.{◌≡◌, ℕ, map, ◌+◌, ◌<◌, ◌≤◌, Bool, true, false, List, [], ◌∷◌, ◌++◌, length, Option, Some, None, if◌then◌else◌, get_or}
-use Rattle.std.specs.Ordering.{nat_cmp}
+use Rattle.std.specs.Ordering.{nat_cmp, is_lt}
 use Rattle.std.specs.Cmp.Lexicographic.{slice_cmp}
 use Rattle.std.specs.Str.{bytes_eq}
 use Rattle.bp_base.specs.declared.ident.Ident.{Ident}
@@ -15,7 +15,7 @@ use Rattle.hole_unify.specs.declared.equation.Equation.{Equation}
 use Rattle.hole_unify.specs.Table.{Node, nodes_of}
 use Rattle.hole_unify.specs.Tables.{IsTable}
 use Rattle.hole_unify.specs.Stands.{Stands}
-use Rattle.hole_unify.specs.Build.{Entry, built_of, AreBuiltBelow, term_hole, is_less, put}
+use Rattle.hole_unify.specs.Build.{Entry, built_of, AreBuiltBelow, term_hole, put}
 
 -- the node of a number
 abbrev pub node_at : List Ident → List ℕ → ℕ → Node
@@ -89,7 +89,7 @@ Steps classes table built later after Stopped false = (later ≡ table) × (afte
 -- how many fills come before a hole
 abbrev pub number_place : Text → List NumberFill → ℕ
 number_place h [] = 0
-number_place h (x ∷ xs) = if is_less (slice_cmp nat_cmp x.hole h) then number_place h xs + 1 else 0
+number_place h (x ∷ xs) = if is_lt (slice_cmp nat_cmp x.hole h) then number_place h xs + 1 else 0
 
 -- whether the first fill is of this hole
 abbrev pub is_first : Text → List NumberFill → Bool

@@ -1,7 +1,7 @@
 //! Building closed classes, none of whose holes reaches itself.
 ghost use Rattle.std.specs.Prelude.{◌≡◌, ℕ, ◌<◌, ◌≤◌, List, length, Option, Some, None, replicate, IfOk, slice_get, get_or, set};
 ghost use Rattle.std.specs.Option.{option_map, option_copied};
-ghost use Rattle.std.specs.Ordering.{nat_cmp};
+ghost use Rattle.std.specs.Ordering.{nat_cmp, is_lt};
 ghost use Rattle.std.specs.Cmp.Lexicographic.{slice_cmp};
 ghost use Rattle.bp_base.specs.Lists.{Among};
 ghost use Rattle.bp_base.specs.Texts.{Text};
@@ -13,7 +13,7 @@ ghost use Rattle.hole_unify.specs.Table.{nodes_of};
 ghost use Rattle.hole_unify.specs.Tables.{IsTable};
 ghost use Rattle.hole_unify.specs.Stands.{Stands};
 ghost use Rattle.hole_unify.specs.Reach.{lesser};
-ghost use Rattle.hole_unify.specs.Build.{number_built, built_of, AreBuiltBelow, is_less, has_module, least_hole, hole_of, hole_ready, term_ready, node_ready, first_ready};
+ghost use Rattle.hole_unify.specs.Build.{number_built, built_of, AreBuiltBelow, has_module, least_hole, hole_of, hole_ready, term_ready, node_ready, first_ready};
 ghost use Rattle.hole_unify.specs.Stages.{node_at, hole_at, built_for, made_of, ready_entry, numbers_built, ready_ident, IsReadyBelow, IsStage, Follows, Steps};
 
 use crate::lookup::{hole_name, is_before, is_module_at};

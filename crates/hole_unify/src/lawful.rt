@@ -1,9 +1,8 @@
 //! The test of the condition on units.
 ghost use Rattle.std.specs.Prelude.{◌≡◌, ◌↔◌, ◌++◌, IsTrue, IfOk, OnOk};
-ghost use Rattle.std.specs.Ordering.{nat_cmp};
+ghost use Rattle.std.specs.Ordering.{nat_cmp, is_lt};
 ghost use Rattle.std.specs.Cmp.Lexicographic.{slice_cmp};
 ghost use Rattle.hole_unify.specs.Causes.{IsLawful, units_of, units_in};
-ghost use Rattle.hole_unify.specs.Build.{is_less};
 ghost use Rattle.hole_unify.specs.Lawful.{same_holes, rise_after, rises, agree, agrees_with, all_agree, units_in_fills};
 
 use crate::equation::{Equation, Equations};

@@ -1,17 +1,15 @@
 //! Look-ups in tables of identities.
 ghost use Rattle.std.specs.Prelude.{◌≡◌, ◌<◌, length};
 ghost use Rattle.std.specs.Option.{option_copied};
-ghost use Rattle.std.specs.Ordering.{nat_cmp};
+ghost use Rattle.std.specs.Ordering.{nat_cmp, is_lt};
 ghost use Rattle.std.specs.Cmp.Lexicographic.{slice_cmp};
 ghost use Rattle.ident_table.specs.Numbers.{ident_of};
 ghost use Rattle.hole_unify.specs.Table.{is_module};
-ghost use Rattle.hole_unify.specs.Build.{is_less};
 ghost use Rattle.hole_unify.specs.Numbers.{number_at};
 ghost use Rattle.hole_unify.specs.Stages.{hole_at};
 
 use bp_base::{Name, compare};
 use ident_table::{IdentNode, IdentTable, NumberFill};
-use std::cmp::Ordering;
 
 /// The number that fills have for a hole.
 pub fn filler(fills: &[NumberFill], hole: &Name) -> Option<usize>
@@ -49,11 +47,7 @@ pub fn hole_name(table: &IdentTable, number: usize) -> Option<&Name>
 
 /// Whether a name stands before another one in byte order.
 pub fn is_before(one: &Name, other: &Name) -> bool
-    ensures { result ≡ is_less (slice_cmp nat_cmp one.now other.now) }
+    ensures { result ≡ is_lt (slice_cmp nat_cmp one.now other.now) }
 {
-    match compare(one, other) {
-        Ordering::Less => true,
-        Ordering::Equal => false,
-        Ordering::Greater => false,
-    }
+    compare(one, other).is_lt()
 }

@@ -1,5 +1,5 @@
 mod Sameness
-mod Nodes
+pub mod Nodes
 mod Tables
 mod Written
-mod Numbering
+pub mod Numbering

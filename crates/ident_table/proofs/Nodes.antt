@@ -2,7 +2,9 @@
 use Rattle.std.proofs.Common.{◌≡◌, ℕ, zero, suc, ◌+◌, ◌<◌, ◌≤◌, ◌⊎◌, inl, inr, List, [], ◌∷◌, ◌++◌, length, get_or, drop, refl, ap, sym, subst, ◌∙◌, arith, length-append}
 use Rattle.std.specs.Prelude.{slice_get, Some}
 use Rattle.std.proofs.Math.ListN.{get_or-append}
-use Rattle.std.proofs.lemmas.Option.{slice_get_within, slice_get-get_or}
+use Rattle.std.proofs.lemmas.Option.{slice_get_within, slice_get-get_or, same_Some}
+use Rattle.std.proofs.lemmas.List.{append-nil}
+use Rattle.bp_base.proofs.Idents.{Hole-name, Hole-not-Module}
 use Rattle.bp_base.specs.declared.ident.Ident.{Ident}
 use Rattle.bp_base.specs.declared.ident.Ident.TheVariants.{Hole, Module, Module'}
 use Rattle.bp_base.specs.declared.ident.Ident.TheViews.{roll-Unit, out-roll-Unit}
@@ -17,14 +19,9 @@ use Rattle.ident_table.specs.declared.node.IdentNode.{IdentNode}
 use Rattle.ident_table.specs.declared.node.IdentNode.TheVariants as node
 use Rattle.ident_table.specs.Numbers.{fill_of, fills_of, node_of, idents_of, AreFillsBelow, IsNodeBelow, IsIdentTable, Grows}
 use Rattle.ident_table.specs.Nodes.{StandOnce, AreNodes}
-use Rattle.ident_table.proofs.Sameness.{Some-one}
 use denote.Hole.Carrier.{hidden}
 
 -- ---- places of lists
-
-pub append-nothing : {A : Type 0} (xs : List A) → xs ++ [] ≡ xs
-append-nothing [] = refl
-append-nothing (x ∷ xs) = ap (λ l. x ∷ l) (append-nothing xs)
 
 pub append-append : {A : Type 0} (xs ys zs : List A) → (xs ++ ys) ++ zs ≡ xs ++ (ys ++ zs)
 append-append [] ys zs = refl
@@ -39,8 +36,8 @@ pub get-end : {A : Type 0} (xs ys : List A) (y : A) → slice_get (xs ++ y ∷ y
 get-end [] ys y = refl
 get-end (x ∷ xs) ys y = get-end xs ys y
 
-get-either : {A : Type 0} (xs : List A) (y x : A) (i : ℕ) → slice_get (xs ++ y ∷ []) i ≡ Some x → (slice_get xs i ≡ Some x) ⊎ ((i ≡ length xs) × (y ≡ x))
-get-either [] y x zero h = inr (refl, Some-one y x h)
+pub get-either : {A : Type 0} (xs : List A) (y x : A) (i : ℕ) → slice_get (xs ++ y ∷ []) i ≡ Some x → (slice_get xs i ≡ Some x) ⊎ ((i ≡ length xs) × (y ≡ x))
+get-either [] y x zero h = inr (refl, same_Some y x h)
 get-either [] y x (suc i) h = absurd (cc h)
 get-either (z ∷ xs) y x zero h = inl h
 get-either (z ∷ xs) y x (suc i) h = elim (get-either xs y x i h) [ inl k ↦ inl k | inr k ↦ inr (ap suc k.0, k.1) ]
@@ -53,7 +50,7 @@ get-there (x ∷ xs) (suc i) h = get-there xs i (omega arith)
 -- ---- growing tables
 
 pub Grows-not : (a : List Ident) → Grows a a
-Grows-not a = ([], sym (append-nothing a))
+Grows-not a = ([], sym (append-nil a))
 
 pub Grows-again : (a b c : List Ident) → Grows a b → Grows b c → Grows a c
 Grows-again a b c g h = (g.0 ++ h.0, h.1 ∙ ap (λ l. l ++ h.0) g.1 ∙ append-append a g.0 h.0)
@@ -103,7 +100,7 @@ ident-after : (done : List Ident) (xs : List IdentNode) (k n : ℕ) (x : IdentNo
     → slice_get (idents_of done xs) n ≡ Some (node_of (idents_of done xs) x)
 ident-after done [] k n x e is h = absurd (cc is)
 ident-after done (y ∷ ys) zero n x e is h =
-    let one : y ≡ x = Some-one y x is in
+    let one : y ≡ x = same_Some y x is in
     let at : n ≡ length done = omega (arith, e) in
     let grown = idents-grow (done ++ node_of done y ∷ []) ys in
     let there : slice_get (idents_of (done ++ node_of done y ∷ []) ys) (length done) ≡ Some (node_of done y) =
@@ -138,14 +135,6 @@ Module-unit u v m n e = sym (unit_in-Module u u m) ∙ ap (unit_in u) e ∙ unit
 
 Module-name : (u v : OfUnit) (m n : Text) → Module u m ≡ Module v n → m ≡ n
 Module-name u v m n e = sym (name_in-Module u m) ∙ ap name_in e ∙ name_in-Module v n
-
-Hole-name : (m n : Text) → Hole m ≡ Hole n → m ≡ n
-unfolding name_in
-Hole-name m n e = ap name_in e
-
-Hole-not-Module : (n : Text) (u : OfUnit) (m : Text) → Hole n ≡ Module u m → ⊥
-unfolding hidden-the_row-Unit-0 hidden
-Hole-not-Module n u m e = cc
 
 -- ---- a table has each identity once
 
@@ -189,7 +178,7 @@ module _ (nodes : List IdentNode) (h : AreNodes nodes) where
   node-there i t is =
       let within = slice_get_within (idents_of [] nodes) i t is in
       let y = get-there nodes i (omega (arith, within, length-idents nodes)) in
-      (y.0, y.1, Some-one _ _ (sym (ident-of-node nodes i y.0 h y.1) ∙ is))
+      (y.0, y.1, same_Some _ _ (sym (ident-of-node nodes i y.0 h y.1) ∙ is))
 
   new-ident : (x : IdentNode) → IsNodeBelow (length nodes) x → ((k : ℕ) → slice_get nodes k ≡ Some x → ⊥) → (i : ℕ) → slice_get (idents_of [] nodes) i ≡ Some (node_of (idents_of [] nodes) x) → ⊥
   new-ident x low new i is =

@@ -4,6 +4,7 @@ use Rattle.std.specs.Prelude.{slice_get, Some, IfOk}
 use Rattle.std.proofs.lemmas.Option.{get_or_from_slice_get, slice_get_within}
 use Rattle.std.specs.declared.result.Result.{Result}
 use Rattle.std.specs.declared.result.Result.TheVariants.{Ok, Err}
+use Rattle.std.proofs.lemmas.List.{append-nil}
 use Rattle.bp_base.specs.Texts.{Text}
 use Rattle.bp_base.specs.Lists.{Among}
 use Rattle.bp_base.specs.declared.ident.Ident.{Ident}
@@ -16,14 +17,14 @@ use Rattle.bp_base.proofs.Sets.{among-left, among-right, among-either}
 use Rattle.ident_table.specs.declared.node.NumberFill.{NumberFill}
 use Rattle.ident_table.specs.Parts.{terms_of, terms_below, terms_of_row, terms_in_fills}
 use Rattle.ident_table.specs.Numbers.{fills_of, module_of, AreFillsBelow, Grows}
-use Rattle.ident_table.proofs.Nodes.{append-nothing, append-append, Grows-again, Grows-longer, below-longer, fills-grown}
+use Rattle.ident_table.proofs.Nodes.{append-append, Grows-again, Grows-longer, below-longer, fills-grown}
 use Rattle.ident_table.proofs.Written.{take-next, fills-push}
 use mathlib.Core.Former.{list_count, this, none_left}
 use denote.Hole.Carrier.{hidden, out, shown}
 
 -- ---- identities below a module
 
-terms_of-Module : (u : OfUnit) (m : Text) → terms_of (Module u m) ≡ Module u m ∷ terms_below u
+pub terms_of-Module : (u : OfUnit) (m : Text) → terms_of (Module u m) ≡ Module u m ∷ terms_below u
 unfolding hidden-the_row-Unit-0 hidden
 terms_of-Module u m = refl
 
@@ -32,7 +33,7 @@ unfolding out-Unit out shown-the_row-Fill-1 shown
 terms-row c [] end_of-Fill = refl
 terms-row c (x ∷ s) (more_of-Fill h i r) = ap (λ l. terms_of i ++ l) (terms-row c s r)
 
-terms_below-out : (u : OfUnit) → terms_below u ≡ terms_in_fills (out-Unit u).fills
+pub terms_below-out : (u : OfUnit) → terms_below u ≡ terms_in_fills (out-Unit u).fills
 terms_below-out (Unit' c s r) = terms-row c s r
 
 terms-join : (fs gs : List Fill) → terms_in_fills (fs ++ gs) ≡ terms_in_fills fs ++ terms_in_fills gs
@@ -97,7 +98,7 @@ number-step first table new fs i x numbers more hole n lt is so at grows adds na
     below = below-push (length new) numbers (record { hole = hole; ident = n }) (below-longer (length table) (length new) numbers (Grows-longer table new grows) so.1) (slice_get_within new n x.ident at)
 
     parts : Adds first new (terms_in_fills (take i fs ++ x ∷ []))
-    parts = subst (Adds first new) (sym (terms-join (take i fs) (x ∷ []) ∙ ap (λ l. terms_in_fills (take i fs) ++ l) (append-nothing (terms_of x.ident)))) (Adds-again first table new (terms_in_fills (take i fs)) (terms_of x.ident) so.3 adds)
+    parts = subst (Adds first new) (sym (terms-join (take i fs) (x ∷ []) ∙ ap (λ l. terms_in_fills (take i fs) ++ l) (append-nil (terms_of x.ident)))) (Adds-again first table new (terms_in_fills (take i fs)) (terms_of x.ident) so.3 adds)
 
     done : IsNumbered first new (take i fs ++ x ∷ []) (numbers ++ record { hole = hole; ident = n } ∷ [])
     done = (fills, below, Grows-again first table new so.2 grows, parts)

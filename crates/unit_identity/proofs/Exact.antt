@@ -12,7 +12,7 @@ use Rattle.bp_base.specs.declared.ident.Ident.TheBlock.{end_of-Unit, more_of-Uni
 use Rattle.unit_identity.specs.WellFormed.{well_formed, well_formed_unit, well_formed_row, row_holes, rising}
 use Rattle.unit_identity.specs.Text.{text, text_unit, pieces, closing, IsTextOf}
 use Rattle.unit_identity.specs.Reading.{is_mark, read, whole, HasNoMark, IsClean, IsCleanUnit, AreClean, turns, turns_unit, turns_row}
-use Rattle.std.proofs.lemmas.Bool.Decides.{Decides-eqb}
+use Rattle.std.proofs.lemmas.Bool.{not-true, eqb-true}
 use Rattle.unit_identity.proofs.ReadBack.{text_reads_back}
 
 both : (a b : Bool) → IsTrue (a && b) → IsTrue a × IsTrue b
@@ -53,9 +53,6 @@ parts-bytes : (ok : Text → Bool) (q : ℕ → Bool) → ((t : Text) → IsTrue
 parts-bytes ok q k [] h = tt
 parts-bytes ok q k (part ∷ parts) h = let r = both (ok part) (list_all ok parts) h in (k part r.0, parts-bytes ok q k parts r.1)
 
-same_number : (b m : ℕ) → (b == m) ≡ true → b ≡ m
-same_number b m = (Decides-eqb b m).0
-
 -- not a mark
 abbrev plain : ℕ → Bool
 plain b = not (is_mark b)
@@ -64,7 +61,7 @@ unlike : (f : ℕ → Bool) (m b : ℕ) → f m ≡ false → IsTrue (f b) → (
 unlike f m b other h = go (b == m) refl
   where
     go : (c : Bool) → (b == m) ≡ c → c ≡ false
-    go true e = absurd (let s = same_number b m e in let t : f m ≡ true = subst (λ x. f x ≡ true) s h in cc)
+    go true e = absurd (let s = eqb-true b m e in let t : f m ≡ true = subst (λ x. f x ≡ true) s h in cc)
     go false e = refl
 
 plain-where : (f : ℕ → Bool) → f 44 ≡ false → f 47 ≡ false → f 60 ≡ false → f 61 ≡ false → f 62 ≡ false → f 91 ≡ false → f 93 ≡ false → (b : ℕ) → IsTrue (f b) → IsTrue (plain b)
@@ -93,7 +90,7 @@ part-plain (b ∷ bs) h =
     let c = mapped-all is_name_character plain character-plain bs r.1 in cc
 
 at-plain : (m : ℕ) → IsTrue (plain m) → (x : ℕ) → (x == m) ≡ true → IsTrue (plain x)
-at-plain m h x e = subst (λ y. IsTrue (plain y)) (sym (same_number x m e)) h
+at-plain m h x e = subst (λ y. IsTrue (plain y)) (sym (eqb-true x m e)) h
 
 package-plain : (t : Text) → IsTrue (is_package_name t) → IsTrue (list_all plain t)
 unfolding is_package_name
@@ -155,17 +152,13 @@ component-plain t h =
     let p = both (is_package_name (take (colon_place t) t)) ((colon_place t == length t) || is_library_or_executable (drop (colon_place t + 1) t)) h in
     colon-plain t (package-plain (take (colon_place t) t) p.0)
     (elim (either (colon_place t == length t) (is_library_or_executable (drop (colon_place t + 1) t)) p.1) [
-      | inl e ↦ inl (same_number (colon_place t) (length t) e)
+      | inl e ↦ inl (eqb-true (colon_place t) (length t) e)
       | inr s ↦ inr (second-plain (drop (colon_place t + 1) t) s)
     ])
 
-not_true : (a : Bool) → IsTrue (not a) → a ≡ false
-not_true true h = cc
-not_true false h = refl
-
 HasNoMark-plain : (bs : Text) → IsTrue (list_all plain bs) → HasNoMark bs
 HasNoMark-plain [] h = tt
-HasNoMark-plain (b ∷ bs) h = let p = both (plain b) (list_all plain bs) h in (not_true (is_mark b) p.0, HasNoMark-plain bs p.1)
+HasNoMark-plain (b ∷ bs) h = let p = both (plain b) (list_all plain bs) h in (not-true (is_mark b) p.0, HasNoMark-plain bs p.1)
 
 module-clean : (t : Text) → IsTrue (is_module_name t) → HasNoMark t
 module-clean t h = HasNoMark-plain t (module-plain t h)

@@ -1,12 +1,13 @@
 -- The equations of `filled` at the types as `src/` sees them.
-use Rattle.std.proofs.Common.{◌≡◌, ℕ, Bool, true, false, cond, List, [], ◌∷◌, refl, ap, sym, ◌∙◌, rules}
-use Rattle.std.specs.Prelude.{Some, IsSome, IsTrue, unwrap_or}
+use Rattle.std.proofs.Common.{◌≡◌, ℕ, Bool, true, false, cond, List, [], ◌∷◌, refl, ap, ◌∙◌, rules}
+use Rattle.std.specs.Prelude.{Some, IsSome, unwrap_or}
 use Rattle.std.specs.Str.{bytes_eq}
+use Rattle.bp_base.proofs.Idents.{unit-same}
 use Rattle.bp_base.specs.declared.ident.Ident.{Ident}
 use Rattle.bp_base.specs.declared.ident.Ident.TheVariants.{Hole, Module, Module'}
 use Rattle.bp_base.specs.declared.ident.Unit.{Unit as OfUnit, Unit', out-Unit}
 use Rattle.bp_base.specs.declared.ident.Ident.TheBlock.{hidden-the_row-Unit-0, shown-the_row-Fill-1, end_of-Unit, more_of-Unit, Row_of-Fill, end_of-Fill, more_of-Fill}
-use Rattle.bp_base.specs.declared.ident.Ident.TheViews.{roll-Unit, roll-out-Unit, the_lemmas}
+use Rattle.bp_base.specs.declared.ident.Ident.TheViews.{roll-Unit, the_lemmas}
 use Rattle.bp_base.specs.declared.ident.Fill.{Fill}
 use Rattle.unit_identity.specs.Fill.{filled, filled_unit, filled_row, composed, at_hole, found, IsFilled, IsFilledUnit, IsFilledRow}
 use denote.Hole.Carrier.{hidden, out, shown}
@@ -50,12 +51,4 @@ mutual
 
 pub ruleset unit_equations = (filled_unit-out, filled-Module)
 
--- a unit is its two fields
-pub unit-same : (a b : OfUnit) → (out-Unit a).component ≡ (out-Unit b).component → (out-Unit a).fills ≡ (out-Unit b).fills → a ≡ b
-unit-same a b c f = sym (roll-out-Unit a) ∙ (λ i. roll-Unit (record { component = c i; fills = f i })) ∙ roll-out-Unit b
-
 pub ruleset unit_sameness = (unit-same)
-
--- two units of one component are equal where their fills are
-pub units-same : (a b : OfUnit) (la lb : List Fill) (r : Bool) → la ≡ (out-Unit a).fills → lb ≡ (out-Unit b).fills → (out-Unit a).component ≡ (out-Unit b).component → (IsTrue r → la ≡ lb) × (la ≡ lb → IsTrue r) → (IsTrue r → a ≡ b) × (a ≡ b → IsTrue r)
-units-same a b la lb r ea eb c s = ((λ t. unit-same a b c (sym ea ∙ s.0 t ∙ eb)), (λ e. s.1 (ea ∙ ap (λ u. (out-Unit u).fills) e ∙ sym eb)))

@@ -1,12 +1,13 @@
 -- The text of an identity reads back as that identity.
 use Rattle.std.proofs.Common.{◌≡◌, ℕ, zero, suc, ◌+◌, ◌-◌, ◌<◌, Bool, true, false, cond, if◌then◌else◌, ◌==◌, ◌||◌, List, [], ◌∷◌, ◌++◌, refl, ap, sym, ◌∙◌, subst, append_assoc, append-nil, arith}
 use Rattle.std.specs.Prelude.{Option, Some, None}
+use Rattle.bp_base.proofs.Idents.{Module-is, unit-is}
 use Rattle.bp_base.specs.declared.ident.Ident.{Ident}
 use Rattle.bp_base.specs.declared.ident.Ident.TheVariants.{Hole, Module, Module'}
 use Rattle.bp_base.specs.declared.ident.Unit.{Unit as OfUnit, Unit', out-Unit}
 use Rattle.bp_base.specs.declared.ident.Fill.{Fill}
 use Rattle.bp_base.specs.declared.ident.Ident.TheBlock.{hidden-the_row-Unit-0, shown-the_row-Fill-1, end_of-Unit, more_of-Unit, Row_of-Fill, end_of-Fill, more_of-Fill}
-use Rattle.bp_base.specs.declared.ident.Ident.TheViews.{roll-Unit, roll-out-Unit}
+use Rattle.bp_base.specs.declared.ident.Ident.TheViews.{roll-Unit}
 use Rattle.unit_identity.specs.Text.{text, text_unit, pieces, closing, pieces_of, closing_of}
 use Rattle.unit_identity.specs.Reading.{run, run_with, name_of, rest_of, after, then_read, read_module, front, back, push_fill, read, read_fills, appended, HasNoMark, IsClean, IsCleanUnit, AreClean, turns, turns_unit, turns_row}
 use mathlib.Core.Former.{list_count, this, none_left}
@@ -57,10 +58,6 @@ name-of n rest c e = ap (λ p. p.0) (run-name n rest c e)
 rest-of : (n rest : List ℕ) → HasNoMark n → Ends rest → rest_of (n ++ rest) ≡ rest
 rest-of n rest c e = ap (λ p. p.1) (run-name n rest c e)
 
-Module-is : (s : _) (u : OfUnit) (m : List ℕ) → Module' s (more_of-Unit u end_of-Unit) m ≡ Module u m
-unfolding hidden-the_row-Unit-0 hidden
-Module-is s u m = refl
-
 read_hole : (n : ℕ) (h rest : List ℕ) → HasNoMark h → read (suc n) (60 ∷ (h ++ 62 ∷ rest)) ≡ Some (Hole h, rest)
 read_hole n h rest c = λ k. after 62 (rest-of h (62 ∷ rest) c refl k) (λ r. Some (Hole (name-of h (62 ∷ rest) c refl k), r))
 
@@ -83,13 +80,6 @@ row_fills-list : (c : List ℕ) (s : List (Unit {0})) (r : Row_of-Fill (list_cou
 unfolding out-Unit out shown-the_row-Fill-1 shown
 row_fills-list c [] end_of-Fill = refl
 row_fills-list c (x ∷ s) (more_of-Fill h i r) = ap (λ l. record { hole = h; ident = i } ∷ l) (row_fills-list c s r)
-
-component-is : (c : List ℕ) (s : List (Unit {0})) (r : Row_of-Fill (list_count this s none_left)) → (out-Unit (Unit' c s r)).component ≡ c
-unfolding out-Unit out
-component-is c s r = refl
-
-unit-is : (c : List ℕ) (s : List (Unit {0})) (r : Row_of-Fill (list_count this s none_left)) → roll-Unit (record { component = c; fills = row_fills r }) ≡ Unit' c s r
-unit-is c s r = (λ k. roll-Unit (record { component = sym (component-is c s r) k; fills = row_fills-list c s r k })) ∙ roll-out-Unit (Unit' c s r)
 
 -- what reading the text of a row gives
 abbrev RowReads : {m : _} → Row_of-Fill m → Type 0
