@@ -1,5 +1,5 @@
 //! Bytes that nobody writes: whatever a file holds, it is answered.
-use crate::shown::{is_project, refused};
+use crate::shown::{Asked, answer, refused};
 use std::alloc::{AllocError, Global};
 use std::test::Fail;
 
@@ -29,41 +29,6 @@ fn refused_field(
     let mut head = b"name: p\nlibrary\n  ".to_vec(alloc)?;
     head.extend_from_slice(front)?;
     refused(alloc, &repeated(alloc, &head, part, count, b"\n")?)
-}
-
-#[test]
-fn odd_lines_are_answered(rt: HostRuntime) -> Result<(), Fail> {
-    let alloc = rt.alloc();
-    assert_eq!(rt;
-        refused(alloc, b"name: p\r\n\r\n\t\r\nlibrary\r\n\tx: y\r\n")?,
-        0
-    );
-    assert_eq!(rt;
-        refused(alloc, b"name: p\nlibrary\n\tx: y\n z: w\n  v: u")?,
-        0
-    );
-    assert_eq!(rt; refused(alloc, b"name: p\nlibrary\n\t\tx: y\n\tz: w\n")?, 4);
-    assert_eq!(rt; refused(alloc, b"name: p\rlibrary")?, 1);
-    assert_eq!(rt; refused(alloc, b"name: p\r")?, 1);
-    assert_eq!(rt;
-        refused(alloc, b"name: p\nlibrary\n  exposed-modules: A\rB\n")?,
-        3
-    );
-    assert_eq!(rt; refused(alloc, b"name: p\0\n")?, 1);
-    assert_eq!(rt; refused(alloc, b"\n\n\n")?, 1);
-    assert_eq!(rt; refused(alloc, b"-- name: p\n")?, 1);
-    assert_eq!(rt; refused(alloc, b"name: p\n\xff\xfe\n")?, 2);
-    assert_eq!(rt; refused(alloc, b"name: p\nauthor: \xff\xfe \xc3\xa9\n")?, 0);
-    assert_eq!(rt; refused(alloc, b"\xef\xbb\xbfname: p\n")?, 1);
-    assert!(rt;
-        is_project(
-            alloc,
-            b"packages: \xff\xc3\xa9\n",
-            b"|\xff\xc3\xa9/\xff\xc3\xa9.cabal "
-        )?
-    );
-    assert!(rt; is_project(alloc, b"packages: a\r", b"|a\r/a\r.cabal ")?);
-    Ok(())
 }
 
 #[test]
@@ -113,7 +78,8 @@ fn a_mebibyte_is_answered(rt: HostRuntime) -> Result<(), Fail> {
     let alloc = rt.alloc();
     let spaces = repeated(alloc, b"", b" ", 1_048_576, b"")?;
     assert_eq!(rt; refused(alloc, &spaces)?, 1);
-    assert!(rt; is_project(alloc, &spaces, b"|")?);
+    let none = answer(alloc, Asked::Project, &spaces)?;
+    assert!(rt; none.as_slice() == b"|".as_slice());
     let inside = repeated(
         alloc,
         b"name: p\nlibrary\n  build-depends: a",

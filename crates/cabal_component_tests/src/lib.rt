@@ -1,13 +1,11 @@
-//! Tables of worked project files and package files.
+//! Worked values of `cabal_text`, `cabal_stanzas` and `cabal_component`.
 #![tactic(auto)]
 
 #[cfg(test)]
 mod bad_input;
 #[cfg(test)]
-mod refusals;
-#[cfg(test)]
-mod shapes;
-#[cfg(test)]
 mod shown;
+#[cfg(test)]
+mod tables;
 #[cfg(test)]
 mod tests;

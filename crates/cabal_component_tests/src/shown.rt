@@ -72,8 +72,8 @@ fn described(alloc: Global, component: &Component) -> Result<Vec<u8>, AllocError
     Ok(text)
 }
 
-/// The last component of a package file, or the line that is refused.
-pub fn last_of(alloc: Global, text: &[u8]) -> Result<Vec<u8>, AllocError> {
+/// The last component of a package file, or that its file is refused.
+fn last_of(alloc: Global, text: &[u8]) -> Result<Vec<u8>, AllocError> {
     let path = Path::from_bytes(alloc, b"p/p.cabal")?;
     match read_component(alloc, &path, text) {
         Ok(mut components) => match components.pop() {
@@ -112,48 +112,44 @@ pub fn refused(alloc: Global, text: &[u8]) -> Result<u64, AllocError> {
     }
 }
 
-/// The files that a project names, or its refused line as a character.
-pub fn project(alloc: Global, text: &[u8]) -> Result<Vec<u8>, AllocError> {
-    let mut found = Vec::new(alloc);
-    match read_project(alloc, text) {
-        Ok(paths) => add_paths(&mut found, paths.as_slice())?,
-        Err(ProjectError::ProjectSyntax { line }) => found.push(if line < 10 {
-            b'0' + line as u8
-        } else {
-            b'+'
-        })?,
-        Err(ProjectError::NoMemory) => return Err(AllocError),
-    }
-    Ok(found)
-}
-
-pub fn is_project(alloc: Global, text: &[u8], expected: &[u8]) -> Result<bool, AllocError> {
-    Ok(project(alloc, text)?.as_slice() == expected)
-}
-
-pub fn is_last(alloc: Global, text: &[u8], expected: &[u8]) -> Result<bool, AllocError> {
-    Ok(last_of(alloc, text)?.as_slice() == expected)
-}
-
-pub fn is_included(alloc: Global, text: &[u8], expected: &[u8]) -> Result<bool, AllocError> {
-    Ok(included(alloc, text)?.as_slice() == expected)
-}
-
-/// The text of a file that ends in a field.
-fn with_field(alloc: Global, head: &[u8], field: &[u8]) -> Result<Vec<u8>, AllocError> {
-    let mut text = head.to_vec(alloc)?;
-    text.extend_from_slice(field)?;
-    text.push(b'\n')?;
+fn line_of(alloc: Global, line: u64) -> Result<Vec<u8>, AllocError> {
+    let mut text = Vec::new(alloc);
+    text.extend_from_slice(format!(in alloc; "{line}")?.as_bytes())?;
     Ok(text)
 }
 
-/// The line that is refused of a file that ends in a field, or 0.
-pub fn field_line(alloc: Global, head: &[u8], field: &[u8]) -> Result<u64, AllocError> {
-    refused(alloc, &with_field(alloc, head, field)?)
+/// The files that a project names, or its refused line.
+fn project(alloc: Global, text: &[u8]) -> Result<Vec<u8>, AllocError> {
+    match read_project(alloc, text) {
+        Ok(paths) => {
+            let mut found = Vec::new(alloc);
+            add_paths(&mut found, paths.as_slice())?;
+            Ok(found)
+        }
+        Err(ProjectError::ProjectSyntax { line }) => line_of(alloc, line),
+        Err(ProjectError::NoMemory) => Err(AllocError),
+    }
 }
 
-/// Whether this is the library of a package p, with a library `own` too, that has a field.
-pub fn is_last_field(alloc: Global, field: &[u8], expected: &[u8]) -> Result<bool, AllocError> {
-    let head = b"name: p\nlibrary own\nlibrary\n  ".as_slice();
-    is_last(alloc, &with_field(alloc, head, field)?, expected)
+/// What is answered of a text.
+#[derive(Clone, Copy, Debug)]
+pub enum Asked {
+    /// The package files of a project file.
+    Project,
+    /// The refused line of a package file.
+    Refused,
+    /// The last component of a package file.
+    Last,
+    /// What that component includes.
+    Includes,
+}
+
+/// The answer in one line.
+pub fn answer(alloc: Global, asked: Asked, text: &[u8]) -> Result<Vec<u8>, AllocError> {
+    match asked {
+        Asked::Project => project(alloc, text),
+        Asked::Refused => line_of(alloc, refused(alloc, text)?),
+        Asked::Last => last_of(alloc, text),
+        Asked::Includes => included(alloc, text),
+    }
 }

@@ -1,188 +1,121 @@
-//! Worked files.
-use crate::shown::{is_included, is_last, is_project, refused};
+//! Worked files: every field in each of its shapes, every refusal with its line, and what real packages have.
+use crate::shown::{Asked, answer};
+use crate::tables::{
+    COMPONENTS, EXECUTABLE_FIELDS, FIELDS, FILES, INCLUDES, LIBRARY_FIELDS, MAIN_FILES, PROJECTS,
+};
+use std::alloc::{AllocError, Global};
 use std::test::Fail;
+
+/// What is asked of each text of a table, and what stands before it.
+#[derive(Clone, Copy, Debug)]
+struct Question<'a> {
+    asked: Asked,
+    head: &'a [u8],
+}
+
+/// A case of a table on its way: the answer that it wants, and its text so far.
+#[derive(Drop)]
+struct Case {
+    want: Vec<u8>,
+    text: Vec<u8>,
+    ended: bool,
+}
+
+fn begun(alloc: Global, question: Question, want: &[u8], ended: bool) -> Result<Case, AllocError> {
+    Ok(Case {
+        want: want.to_vec(alloc)?,
+        text: question.head.to_vec(alloc)?,
+        ended,
+    })
+}
+
+/// Whether a case has the answer that it wants.
+fn is_right(alloc: Global, question: Question, case: &Case) -> Result<bool, AllocError> {
+    let text = match case.text.as_slice() {
+        [front @ .., _] if !case.ended => front,
+        text => text,
+    };
+    Ok(answer(alloc, question.asked, text)?.as_slice() == case.want.as_slice())
+}
+
+/// What a case wants, and whether its text has a line end at its end, where a line begins a case.
+fn wanted(line: &[u8]) -> Option<(&[u8], bool)> {
+    match line {
+        [b'=', b'>', b' ', want @ ..] => Some((want, true)),
+        [b'=', b':', b' ', want @ ..] => Some((want, false)),
+        _ => None,
+    }
+}
+
+/// The number of the first case of a table that is wrong, from 1, or 0.
+fn first_wrong(alloc: Global, question: Question, table: &[u8]) -> Result<usize, AllocError> {
+    let table = table.strip_suffix(b"\n").unwrap_or(table);
+    let mut case: Option<Case> = None;
+    let mut number = 0;
+    for line in table.split(|b| *b == b'\n') {
+        if let Some((want, ended)) = wanted(line) {
+            if let Some(before) = &case {
+                if !is_right(alloc, question, before)? {
+                    return Ok(number);
+                }
+            }
+            case = Some(begun(alloc, question, want, ended)?);
+            number = number.saturating_add(1);
+        } else if let Some(open) = &mut case {
+            open.text.extend_from_slice(line)?;
+            open.text.push(b'\n')?;
+        }
+    }
+    match &case {
+        Some(last) if is_right(alloc, question, last)? => Ok(0),
+        _ => Ok(number),
+    }
+}
+
+fn asked(asked: Asked) -> Question<'static> {
+    Question { asked, head: b"" }
+}
+
+fn of_field(asked: Asked, head: &'static [u8]) -> Question<'static> {
+    Question { asked, head }
+}
 
 #[test]
 fn projects_are_read(rt: HostRuntime) -> Result<(), Fail> {
-    let alloc = rt.alloc();
-    assert!(rt; is_project(alloc, b"packages: a ./b/\n", b"|a/a.cabal b/b.cabal ")?);
-    assert!(rt;
-        is_project(
-            alloc,
-            b"-- x\r\nPackages : a,\r\n\n\t, b/c.cabal\nother\n  if x\n",
-            b"|a/a.cabal b/c.cabal "
-        )?
-    );
-    assert!(rt; is_project(alloc, b"packages:", b"|")?);
-    assert!(rt; is_project(alloc, b"packages: *.cabal\n", b"1")?);
-    assert!(rt; is_project(alloc, b"packages: a\n  b\n  .\n", b"3")?);
-    assert!(rt; is_project(alloc, b"packages: a\nif x\n  y: z\n", b"2")?);
-    assert!(rt; is_project(alloc, b"import: x\n", b"1")?);
-    assert!(rt; is_project(alloc, b"other\n    y: z\n  w: z\n", b"3")?);
-    assert!(rt; is_project(alloc, b"  packages: a\n", b"1")?);
-    Ok(())
-}
-
-#[test]
-fn components_are_read(rt: HostRuntime) -> Result<(), Fail> {
-    let alloc = rt.alloc();
-    let strs =
-        b"cabal-version:      3.0\nname:               strs\nversion:            0.1.0.0\nlicense:            BSD-3-Clause\nbuild-type:         Simple\n\ncommon warnings\n    ghc-options: -Wall\n\nlibrary\n    import:           warnings\n    exposed-modules:  Str.Chars, Str.Ints\n    build-depends:    base ^>=4.17.0.0\n    hs-source-dirs:   src\n    default-language: Haskell2010\n".as_slice();
-    assert!(rt;
-        is_last(
-            alloc,
-            strs,
-            b"strs|Str.Chars Str.Ints |||||base |src |p/p.cabal"
-        )?
-    );
-    let app =
-        b"name: app\nexecutable app\n  main-is: Main.hs\n  build-depends: base, strs, regex\n  mixins: regex (Regex as R1) requires (Str as Str.Chars), regex (Regex as R2) requires (Str as Str.Ints)\n".as_slice();
-    assert!(rt;
-        is_last(
-            alloc,
-            app,
-            b"app:exe:app|||Main.hs|||base strs regex |regex listed|Regex>R1 |Str>Str.Chars |regex listed|Regex>R2 |Str>Str.Ints |. |p/p.cabal"
-        )?
-    );
-    let own =
-        b"name: p\nlibrary s\nlibrary\n  other-modules: A\n   , B ,\n  signatures: H\n  reexported-modules: C, D as E\n  build-depends: x >={1,2}, s, x:y>=1, base -any,\n  mixins: q hiding (A, B), s (), x\n  hs-source-dirs: ./src/ .\n".as_slice();
-    assert!(rt;
-        is_last(
-            alloc,
-            own,
-            b"p||A B ||H |C>C D>E |x p:s x:y base q |q hiding|A B ||p:s listed|||x whole||src . |p/p.cabal"
-        )?
-    );
-    Ok(())
-}
-
-#[test]
-fn includes_are_listed(rt: HostRuntime) -> Result<(), Fail> {
-    let alloc = rt.alloc();
-    assert!(rt;
-        is_included(
-            alloc,
-            b"name: one\nlibrary\n  exposed-modules: M\n  build-depends: base\n",
-            b"|base whole|"
-        )?
-    );
-    assert!(rt;
-        is_included(
-            alloc,
-            b"name: outer\nlibrary\n  build-depends: mid, strs\n  mixins: strs, mid requires (A as C), strs (B)\n",
-            b"|mid whole|A>C |strs whole||strs listed|B>B |"
-        )?
+    assert_eq!(rt;
+        first_wrong(rt.alloc(), asked(Asked::Project), PROJECTS)?,
+        0
     );
     Ok(())
 }
 
 #[test]
 fn lines_are_refused(rt: HostRuntime) -> Result<(), Fail> {
-    let alloc = rt.alloc();
-    assert_eq!(rt;
-        refused(
-            alloc,
-            b"name: one\nlibrary\n  exposed-modules: M\n  build-depends: base\n  if x\n"
-        )?,
-        5
-    );
-    assert_eq!(rt; refused(alloc, b"library\n  mixins: (\n")?, 1);
-    assert_eq!(rt; refused(alloc, b"name: a\n\nname: b\n")?, 3);
-    assert_eq!(rt; refused(alloc, b"name: a--b\n")?, 1);
-    assert_eq!(rt; refused(alloc, b"name: a\nfunny x\n")?, 2);
-    assert_eq!(rt; refused(alloc, b"name: a\nlibrary {\n}\n")?, 2);
-    assert_eq!(rt; refused(alloc, b"name: a\nexecutable\n")?, 2);
-    assert_eq!(rt;
-        refused(alloc, b"name: a\nexecutable e\n  other-modules: A\n")?,
-        2
-    );
-    assert_eq!(rt;
-        refused(
-            alloc,
-            b"name: a\nexecutable e\n    main-is: M.hs\n  x: y\n    Main-Is: N.hs\n"
-        )?,
-        4
-    );
-    assert_eq!(rt;
-        refused(alloc, b"name: a\nexecutable e\n  main-is: a b.hs\n")?,
-        3
-    );
-    assert_eq!(rt;
-        refused(
-            alloc,
-            b"name: a\nexecutable e\n  main-is: M.hs\n  signatures: H\n"
-        )?,
-        4
-    );
-    assert_eq!(rt;
-        refused(
-            alloc,
-            b"name: a\nexecutable e\n  main-is: M.hs\n  other-modules: A, Main\n"
-        )?,
-        4
-    );
+    assert_eq!(rt; first_wrong(rt.alloc(), asked(Asked::Refused), FILES)?, 0);
     Ok(())
 }
 
 #[test]
-fn values_are_refused(rt: HostRuntime) -> Result<(), Fail> {
+fn fields_are_refused(rt: HostRuntime) -> Result<(), Fail> {
     let alloc = rt.alloc();
-    assert_eq!(rt;
-        refused(
-            alloc,
-            b"name: a\nlibrary\n  signatures: A\n  exposed-modules:\n    B,\n    A\n"
-        )?,
-        4
+    let library = of_field(Asked::Refused, b"name: a\nlibrary\n  ");
+    assert_eq!(rt; first_wrong(alloc, library, LIBRARY_FIELDS)?, 0);
+    let executable = of_field(
+        Asked::Refused,
+        b"name: a\nexecutable e\n  main-is: M.hs\n  ",
     );
-    assert_eq!(rt;
-        refused(alloc, b"name: a\nlibrary\n  exposed-modules: a\n")?,
-        3
-    );
-    assert_eq!(rt;
-        refused(alloc, b"name: a\nlibrary\n  reexported-modules: p:A\n")?,
-        3
-    );
-    assert_eq!(rt;
-        refused(
-            alloc,
-            b"name: a\nlibrary\n  build-depends: base, q:{a, b}\n"
-        )?,
-        3
-    );
-    assert_eq!(rt;
-        refused(alloc, b"name: a\nlibrary\n  build-depends: base,, q\n")?,
-        3
-    );
-    assert_eq!(rt;
-        refused(alloc, b"name: a\nlibrary\n  mixins: q (A as B, C as B)\n")?,
-        3
-    );
-    assert_eq!(rt;
-        refused(
-            alloc,
-            b"name: a\nlibrary\n  mixins: q requires (A as B, A as C)\n"
-        )?,
-        3
-    );
-    assert_eq!(rt; refused(alloc, b"name: a\nlibrary\n  mixins: q (A\n")?, 3);
-    assert_eq!(rt;
-        refused(alloc, b"name: a\nlibrary\n  hs-source-dirs: src/../x\n")?,
-        3
-    );
-    assert_eq!(rt;
-        refused(
-            alloc,
-            b"name: a\nlibrary\n  build-depends: x\n  build-depends: y\n"
-        )?,
-        4
-    );
-    assert_eq!(rt;
-        refused(alloc, b"name: a\ncommon c\n  x: y\n  mixins: q\n")?,
-        4
-    );
-    assert_eq!(rt;
-        refused(alloc, b"name: a\ntest-suite t\n  if x\n   y\nmixins: q\n")?,
-        0
-    );
+    assert_eq!(rt; first_wrong(alloc, executable, EXECUTABLE_FIELDS)?, 0);
+    let main = of_field(Asked::Refused, b"name: a\nexecutable e\n  main-is: ");
+    assert_eq!(rt; first_wrong(alloc, main, MAIN_FILES)?, 0);
+    Ok(())
+}
+
+#[test]
+fn components_are_read(rt: HostRuntime) -> Result<(), Fail> {
+    let alloc = rt.alloc();
+    let field = of_field(Asked::Last, b"name: p\nlibrary own\nlibrary\n  ");
+    assert_eq!(rt; first_wrong(alloc, field, FIELDS)?, 0);
+    assert_eq!(rt; first_wrong(alloc, asked(Asked::Last), COMPONENTS)?, 0);
+    assert_eq!(rt; first_wrong(alloc, asked(Asked::Includes), INCLUDES)?, 0);
     Ok(())
 }
