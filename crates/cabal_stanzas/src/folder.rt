@@ -73,12 +73,7 @@ fn is_address(item: &[u8]) -> bool
 fn is_glob(item: &[u8]) -> bool
     ensures { result ≡ list_any is_glob_char item.now }
 {
-    for b in item {
-        if is_glob_char(*b) {
-            return true;
-        }
-    }
-    false
+    item.iter().any(|b| is_glob_char(*b))
 }
 
 /// Whether the item is a glob or an address, or leaves a folder.

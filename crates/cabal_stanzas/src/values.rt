@@ -22,12 +22,7 @@ fn front_len(word: &[u8]) -> usize
     ensures value { result ≡ front_len word.now }
     ensures within { result ≤ length word.now }
 {
-    for (i, b) in word.iter().enumerate() {
-        if is_range_char(*b) {
-            return i;
-        }
-    }
-    word.len()
+    word.iter().take_while(|b| !is_range_char(**b)).count()
 }
 
 /// Whether the token begins a range.
@@ -89,12 +84,7 @@ fn blank_len(text: &[u8]) -> usize
     ensures value { result ≡ prefix_len is_blank text.now }
     ensures within { result ≤ length text.now }
 {
-    for (i, b) in text.iter().enumerate() {
-        if !is_blank(*b) {
-            return i;
-        }
-    }
-    text.len()
+    text.iter().take_while(|b| is_blank(**b)).count()
 }
 
 /// How many characters of a text stand before white space.
@@ -102,23 +92,13 @@ fn solid_len(text: &[u8]) -> usize
     ensures value { result ≡ solid_len text.now }
     ensures within { result ≤ length text.now }
 {
-    for (i, b) in text.iter().enumerate() {
-        if is_blank(*b) {
-            return i;
-        }
-    }
-    text.len()
+    text.iter().take_while(|b| !is_blank(**b)).count()
 }
 
 fn are_blank(text: &[u8]) -> bool
     ensures { result ≡ list_all is_blank text.now }
 {
-    for b in text {
-        if !is_blank(*b) {
-            return false;
-        }
-    }
-    true
+    text.iter().all(|b| is_blank(*b))
 }
 
 /// The name of a source file, and nothing else.

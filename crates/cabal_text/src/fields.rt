@@ -12,12 +12,7 @@ fn name_len(text: &[u8]) -> usize
     ensures value { result ≡ prefix_len is_field_char text.now }
     ensures within { result ≤ length text.now }
 {
-    for (i, b) in text.iter().enumerate() {
-        if !is_field_char(*b) {
-            return i;
-        }
-    }
-    text.len()
+    text.iter().take_while(|b| is_field_char(**b)).count()
 }
 
 /// The name and the value of a field.
@@ -61,12 +56,7 @@ fn item_len(text: &[u8]) -> usize
     ensures value { result ≡ prefix_len (λ b. not (is_gap b)) text.now }
     ensures within { result ≤ length text.now }
 {
-    for (i, b) in text.iter().enumerate() {
-        if is_gap(*b) {
-            return i;
-        }
-    }
-    text.len()
+    text.iter().take_while(|b| !is_gap(**b)).count()
 }
 
 /// A list from its first item on.

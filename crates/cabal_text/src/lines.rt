@@ -23,12 +23,7 @@ pub fn indent_of(text: &[u8]) -> usize
     ensures value { result ≡ indent_of text.now }
     ensures within { result ≤ length text.now }
 {
-    for (i, b) in text.iter().enumerate() {
-        if !is_space(*b) {
-            return i;
-        }
-    }
-    text.len()
+    text.iter().take_while(|b| is_space(**b)).count()
 }
 
 /// Whether the line is blank or a comment.
@@ -45,12 +40,7 @@ fn line_len(text: &[u8]) -> usize
     ensures value { result ≡ prefix_len (λ b. not (b == 10)) text.now }
     ensures within { result ≤ length text.now }
 {
-    for (i, b) in text.iter().enumerate() {
-        if *b == b'\n' {
-            return i;
-        }
-    }
-    text.len()
+    text.iter().take_while(|b| **b != b'\n').count()
 }
 
 /// A line without the carriage return at its end.

@@ -1,6 +1,6 @@
 //! Names that were seen before, in a set.
-ghost use Rattle.std.specs.Prelude.{◌≡◌, List, ℕ, IfOk, OnOk, ◌||◌, not, [], false};
-ghost use Rattle.std.specs.HashSet.{contains};
+ghost use Rattle.std.specs.Prelude.{◌≡◌, List, ℕ, IfOk, OnOk, OnErr, ◌||◌, not, [], false};
+ghost use Rattle.std.specs.HashSet.{contains, IsUnchanged};
 ghost use Rattle.std.specs.Str.{bytes_eq};
 ghost use Rattle.bp_base.specs.Lists.{is_among};
 ghost use Rattle.cabal_text.specs.Seen.{repeats, distinct};
@@ -14,18 +14,14 @@ use std::collections::HashSet;
 pub fn is_among(name: &[u8], names: &[Name]) -> bool
     ensures { result ≡ is_among name.now names.now }
 {
-    for each in names {
-        if name == each.as_bytes() {
-            return true;
-        }
-    }
-    false
+    names.iter().any(|each| name == each.as_bytes())
 }
 
-/// Adds a name, and answers whether it is new.
+/// Adds a name, and answers whether it is new. The set stays as it is where memory is wanting.
 pub fn add_name(alloc: Global, seen: &mut HashSet<Name>, name: &Name) -> Result<bool, AllocError>
     ensures new { IfOk result (λ added. added ≡ not (contains bytes_eq seen.old name.now)) }
     ensures held { OnOk result ((q : List ℕ) → contains bytes_eq seen.new q ≡ (bytes_eq q name.now || contains bytes_eq seen.old q)) }
+    ensures err { OnErr result (IsUnchanged seen.old seen.new) }
 {
     let added = seen.insert(name.copied(alloc)?)?;
     Ok(added)

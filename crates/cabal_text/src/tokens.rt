@@ -34,12 +34,7 @@ fn word_len(text: &[u8]) -> usize
     ensures value { result ≡ prefix_len is_word_char text.now }
     ensures within { result ≤ length text.now }
 {
-    for (i, b) in text.iter().enumerate() {
-        if !is_word_char(*b) {
-            return i;
-        }
-    }
-    text.len()
+    text.iter().take_while(|b| is_word_char(**b)).count()
 }
 
 /// A text from its first token on.
