@@ -1,9 +1,9 @@
 -- The test whether a component is lawful decides it.
-use Rattle.std.proofs.Common.{◌≡◌, ◌⊎◌, inl, inr, refl, sym, ap, ◌∙◌, subst, ℕ, Bool, true, false, ◌&&◌, ◌||◌, not, cond, List, [], ◌∷◌, ◌++◌, map, length}
+use Rattle.std.proofs.Common.{◌≡◌, ◌⊎◌, inl, inr, refl, sym, ap, ◌∙◌, subst, ℕ, Bool, true, false, ◌&&◌, ◌||◌, not, cond, List, [], ◌∷◌, ◌++◌, map, length, arith}
 use Rattle.std.specs.Prelude.{◌↔◌, IsTrue, ◌==◌}
 use Rattle.std.specs.List.{AllByRecursion}
 use Rattle.std.specs.Str.{bytes_eq}
-use Rattle.std.proofs.lemmas.Bool.{and_parts, and_from, not-true}
+use Rattle.std.proofs.lemmas.Bool.{and_parts, and_from, not-true, eqb-true}
 use Rattle.bp_base.specs.Lists.{Among, AreDistinct, is_among}
 use Rattle.bp_base.specs.Texts.{Text}
 use Rattle.bp_base.proofs.Sets.{is_among-there, there-is_among, among-right, distinct-twice}
@@ -83,7 +83,7 @@ module _ (is_dep : Text → Bool) (deps : List Text) (is : (q : Text) → is_dep
 
 empty-list : {A : Type 0} (xs : List A) → (length xs == 0) ≡ true → xs ≡ []
 empty-list [] e = refl
-empty-list (x ∷ xs) e = absurd (cc)
+empty-list (x ∷ xs) e = absurd (let z : length (x ∷ xs) ≡ 0 = eqb-true (length (x ∷ xs)) 0 e in omega (arith, z))
 
 module _ (c : Component) where
   form-library : has_form c ≡ true → c.executable ≡ false → c.main_is ≡ []

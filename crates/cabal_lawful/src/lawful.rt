@@ -1,5 +1,5 @@
 //! The test whether a component is lawful.
-ghost use Rattle.std.specs.Prelude.{◌≡◌, ◌↔◌, IfOk, IsTrue};
+ghost use Rattle.std.specs.Prelude.{◌≡◌, ◌↔◌, ◌&&◌, IfOk, IsTrue};
 ghost use Rattle.std.specs.HashSet.{contains};
 ghost use Rattle.std.specs.Str.{bytes_eq};
 ghost use Rattle.cabal_component.specs.Lawful.{own_names, IsLawful};
@@ -88,6 +88,12 @@ fn has_form(component: &Component) -> bool
     }
 }
 
+fn all_of(own: bool, deps: bool, entries: bool, form: bool) -> bool
+    ensures { result ≡ (own && (deps && (entries && form))) }
+{
+    own && deps && entries && form
+}
+
 /// Whether a component is lawful: no name stands twice among its own modules and signatures, `Main` of an executable among them, and
 /// no dependency twice; each entry of `mixins` is of a dependency, gives no two items one new name and renames no requirement twice;
 /// a library has no main file, and an executable no signatures, exposed modules or re-exports.
@@ -99,6 +105,6 @@ pub fn is_lawful(alloc: Global, component: &Component) -> Result<bool, AllocErro
     let deps_apart = are_apart(alloc, &component.deps)?;
     let deps = name_set(alloc, component.deps.as_slice())?;
     let entries = are_lawful_entries(alloc, &deps, component.mixins.as_slice())?;
-    let lawful = own_apart && deps_apart && entries && has_form(component);
+    let lawful = all_of(own_apart, deps_apart, entries, has_form(component));
     Ok(lawful)
 }

@@ -64,7 +64,8 @@ one-least : (es : List Equation) (m n : Text) → IsLeastCycle es m → IsLeastC
 one-least es m n c d = one_name m n (d.least m c.cycle) (c.least n d.cycle)
 
 -- two causes have one kind, one label and one hole
-pub causes_are_one : (es : List Equation) (one other : IdentUnifyError) → IsCause es one → IsCause es other → SameCause one other
+pub causes_are_one : (es : List Equation) (one other : IdentUnifyError) → IsCause es one → IsCause es other
+    → SameCause one other
 causes_are_one es NoMemory other p q = tt
 causes_are_one es (Clash l a b) NoMemory p q = tt
 causes_are_one es (Cycle l h) NoMemory p q = tt
@@ -81,7 +82,8 @@ causes_are_one es (Cycle l h) (Cycle k n) p q =
 unanswered : (es front : List Equation) (l : Text) (f : List Fill) → IsAnswer es f → FailsAt es front l → ⊥
 unanswered es front l f a p = p.fails (front-unified front p.split.2 (subst HasUnifier p.split.4 (f, a.unifies)))
 
-pub no_cause_beside_answer : (es : List Equation) (f : List Fill) (e : IdentUnifyError) → IsAnswer es f → IsCause es e → e ≡ NoMemory
+pub no_cause_beside_answer : (es : List Equation) (f : List Fill) (e : IdentUnifyError) → IsAnswer es f → IsCause es e
+    → e ≡ NoMemory
 no_cause_beside_answer es f NoMemory a p = refl
 no_cause_beside_answer es f (Clash l c d) a p = absurd (unanswered es p.0 l f a p.1)
 no_cause_beside_answer es f (Cycle l h) a p = absurd (unanswered es p.0 l f a p.1)

@@ -15,7 +15,8 @@ pub record IsClosed (es : List Equation) (R : Ident → Ident → Type 0) : Type
   pub stated : (e : Equation) → Among e es → R e.left e.right
   pub turned : (a b : Ident) → R a b → R b a
   pub joined : (a b c : Ident) → R a b → R b c → R a c
-  pub at_hole : (u v : OfUnit) (m h : List ℕ) (i j : Ident) → (out-Unit u).component ≡ (out-Unit v).component → R (Module u m) (Module v m) → found h (out-Unit u).fills ≡ Some i → found h (out-Unit v).fills ≡ Some j → R i j
+  pub at_hole : (u v : OfUnit) (m h : List ℕ) (i j : Ident) → (out-Unit u).component ≡ (out-Unit v).component
+      → R (Module u m) (Module v m) → found h (out-Unit u).fills ≡ Some i → found h (out-Unit v).fills ≡ Some j → R i j
 
 one : {A : Type 0} (a b : A) → Some a ≡ Some b → a ≡ b
 one a b e = cc
@@ -30,8 +31,11 @@ module _ (es : List Equation) (R : Ident → Ident → Type 0) (c : IsClosed es 
   join x y z (inr r) (inl e) = inr (subst (R x) e r)
   join x y z (inr r) (inr s) = inr (c.joined x y z r s)
 
-  below : (u v : OfUnit) (m h : List ℕ) (i j : Ident) → (out-Unit u).component ≡ (out-Unit v).component → (Module u m ≡ Module v m) ⊎ R (Module u m) (Module v m) → found h (out-Unit u).fills ≡ Some i → found h (out-Unit v).fills ≡ Some j → (i ≡ j) ⊎ R i j
-  below u v m h i j e (inl s) p q = inl (one i j (sym p ∙ ap (λ w. found h (out-Unit w).fills) (Module-unit u v m m s) ∙ q))
+  below : (u v : OfUnit) (m h : List ℕ) (i j : Ident) → (out-Unit u).component ≡ (out-Unit v).component
+      → (Module u m ≡ Module v m) ⊎ R (Module u m) (Module v m) → found h (out-Unit u).fills ≡ Some i
+      → found h (out-Unit v).fills ≡ Some j → (i ≡ j) ⊎ R i j
+  below u v m h i j e (inl s) p q = inl (one i j (sym p ∙ ap (λ w. found h (out-Unit w).fills) (Module-unit u v m m s)
+      ∙ q))
   below u v m h i j e (inr r) p q = inr (c.at_hole u v m h i j e r p q)
 
   pub Same-closed : (a b : Ident) → Same es a b → (a ≡ b) ⊎ R a b

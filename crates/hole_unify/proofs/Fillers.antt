@@ -10,15 +10,19 @@ use Rattle.ident_table.specs.declared.node.NumberFill.{NumberFill}
 use Rattle.ident_table.specs.Numbers.{ident_of, fills_of, AreFillsBelow}
 use Rattle.hole_unify.specs.Numbers.{number_at}
 
-pub found-number : (table : List Ident) (h : Text) (fs : List NumberFill) → found h (fills_of table fs) ≡ option_map (ident_of table) (number_at h fs)
+pub found-number : (table : List Ident) (h : Text) (fs : List NumberFill)
+    → found h (fills_of table fs) ≡ option_map (ident_of table) (number_at h fs)
 found-number table h [] = refl
 found-number table h (f ∷ fs) = by (bytes_eq f.hole h) (found-number table h fs)
   where
-    by : (b : Bool) → found h (fills_of table fs) ≡ option_map (ident_of table) (number_at h fs) → cond b (Some (ident_of table f.ident)) (found h (fills_of table fs)) ≡ option_map (ident_of table) (cond b (Some f.ident) (number_at h fs))
+    by : (b : Bool) → found h (fills_of table fs) ≡ option_map (ident_of table) (number_at h fs)
+        → cond b (Some (ident_of table f.ident)) (found h (fills_of table fs)) ≡ option_map (ident_of table)
+        (cond b (Some f.ident) (number_at h fs))
     by true r = refl
     by false r = r
 
-pub number-below : (n : ℕ) (h : Text) (fs : List NumberFill) (i : ℕ) → AreFillsBelow n fs → number_at h fs ≡ Some i → i < n
+pub number-below : (n : ℕ) (h : Text) (fs : List NumberFill) (i : ℕ) → AreFillsBelow n fs → number_at h fs ≡ Some i
+    → i < n
 number-below n h [] i b e = cc
 number-below n h (f ∷ fs) i b e = by (bytes_eq f.hole h) e (λ g. number-below n h fs i (λ x a. b x (inr a)) g)
   where

@@ -1,5 +1,6 @@
 -- The terms of equations that are put into a table.
-use Rattle.std.proofs.Common.{◌≡◌, ℕ, zero, suc, ◌+◌, ◌-◌, ◌<◌, ◌≤◌, List, [], ◌∷◌, ◌++◌, length, get_or, drop, ◌⊎◌, inl, inr, refl, ap, sym, ◌∙◌, subst, arith}
+use Rattle.std.proofs.Common.{◌≡◌, ℕ, zero, suc, ◌+◌, ◌-◌, ◌<◌, ◌≤◌, List, [], ◌∷◌, ◌++◌, length, get_or, drop, ◌⊎◌}
+use Rattle.std.proofs.Common.{inl, inr, refl, ap, sym, ◌∙◌, subst, arith}
 use Rattle.std.proofs.lemmas.List.{map-append}
 use Rattle.std.proofs.lemmas.Option.{get_or_from_slice_get, slice_get_within}
 use Rattle.std.specs.Prelude.{Some, slice_get}
@@ -26,7 +27,8 @@ use Rattle.hole_unify.proofs.Places.{ident-of-later}
 
 -- ---- what an identity is made of stands in the table too
 
-pub some-term : (fs : List Fill) (s : Ident) → Among s (terms_in_fills fs) → (f : Fill) × Among f fs × Among s (terms_of f.ident)
+pub some-term : (fs : List Fill) (s : Ident) → Among s (terms_in_fills fs)
+    → (f : Fill) × Among f fs × Among s (terms_of f.ident)
 some-term [] s h = absurd h
 some-term (f ∷ fs) s h = elim (among-either s (terms_of f.ident) (terms_in_fills fs) h) [
   | inl a ↦ (f, inl refl, a)
@@ -39,7 +41,8 @@ module _ (table : List Ident) (is : IsIdentTable table) where
   below-terms zero k t s lt e h = absurd (omega (arith, lt))
   below-terms (suc n) k (Hole m) s lt e (inl same) = subst (λ z. Among z table) same (place-Among (Hole m) table k e)
   below-terms (suc n) k (Hole m) s lt e (inr h) = absurd h
-  below-terms (suc n) k (Module' y (more_of-Unit u end_of-Unit) m) s lt e (inl same) = subst (λ z. Among z table) same (subst (λ z. Among z table) (Module-is y u m) (place-Among _ table k e))
+  below-terms (suc n) k (Module' y (more_of-Unit u end_of-Unit) m) s lt e (inl same) =
+      subst (λ z. Among z table) same (subst (λ z. Among z table) (Module-is y u m) (place-Among _ table k e))
   below-terms (suc n) k (Module' y (more_of-Unit u end_of-Unit) m) s lt e (inr h) =
       let f = some-term (out-Unit u).fills s (subst (λ l. Among s l) (terms_below-out u) h) in
       let j = is.below k u m (e ∙ ap Some (Module-is y u m)) f.0 f.1 in
@@ -50,7 +53,8 @@ module _ (table : List Ident) (is : IsIdentTable table) where
 
 -- ---- a table that grows keeps what its numbers are
 
-pub pairs-kept : (old new : List Ident) (ps : List NumberPair) → Grows old new → ArePairsBelow (length old) ps → pairs_of new ps ≡ pairs_of old ps
+pub pairs-kept : (old new : List Ident) (ps : List NumberPair) → Grows old new → ArePairsBelow (length old) ps
+    → pairs_of new ps ≡ pairs_of old ps
 pairs-kept old new [] g b = refl
 pairs-kept old new (p ∷ ps) g b =
     let one = ident-of-later old new p.one g (b p (inl refl)).0 in
@@ -71,14 +75,24 @@ pub record IsListed (es : List Equation) (table : List Ident) (pairs : List Numb
 no-idents : IsIdentTable []
 no-idents = record { once = λ i j t e f. cc; below = λ k u m e f a. cc }
 
-pub more-listed : (e : Equation) (es : List Equation) (old new : List Ident) (pairs : List NumberPair) (p : NumberPair) → IsListed es old pairs → IsNumbered old e new p → IsListed (e ∷ es) new (pairs ++ p ∷ [])
+pub more-listed : (e : Equation) (es : List Equation) (old new : List Ident) (pairs : List NumberPair) (p : NumberPair)
+    → IsListed es old pairs → IsNumbered old e new p → IsListed (e ∷ es) new (pairs ++ p ∷ [])
 more-listed e es old new pairs p l n = record {
-  stated = map-append (pair_of new) pairs (p ∷ []) ∙ (λ w. (pairs-kept old new pairs n.grows l.below ∙ l.stated) w ++ record { one = get_or_from_slice_get new p.one e.left (Hole []) n.left w; other = get_or_from_slice_get new p.other e.right (Hole []) n.right w } ∷ []);
+  stated = map-append (pair_of new) pairs (p ∷ [])
+      ∙ (λ w. (pairs-kept old new pairs n.grows l.below
+      ∙ l.stated) w ++ record {
+        one = get_or_from_slice_get new p.one e.left (Hole []) n.left w;
+        other = get_or_from_slice_get new p.other e.right (Hole []) n.right w;
+      } ∷ []);
   below = λ q h. below q (among-either q pairs (p ∷ []) h);
   sides = sides;
   only = λ t h. elim (n.parts t h) [
     | inl a ↦ among-right t (terms_of e.left) _ (among-right t (terms_of e.right) _ (l.only t a))
-    | inr b ↦ elim b [ inl c ↦ among-left t (terms_of e.left) _ c | inr d ↦ among-right t (terms_of e.left) _ (among-left t (terms_of e.right) _ d) ]
+    | inr b ↦ elim b [
+      | inl c ↦ among-left t (terms_of e.left) _ c
+      | inr d ↦
+          among-right t (terms_of e.left) _ (among-left t (terms_of e.right) _ d)
+    ]
   ];
   ordered = n.table;
 }
@@ -87,23 +101,31 @@ more-listed e es old new pairs p l n = record {
     le = Grows-longer old new n.grows
 
     below : (q : NumberPair) → Among q pairs ⊎ Among q (p ∷ []) → (q.one < length new) × (q.other < length new)
-    below q (inl a) = let b = l.below q a in let x = b.0 in let y = b.1 in let z = le in (omega (arith, x, z), omega (arith, y, z))
-    below q (inr (inl is)) = subst (λ z. (z.one < length new) × (z.other < length new)) is (slice_get_within new p.one e.left n.left, slice_get_within new p.other e.right n.right)
+    below q (inl a) = let b = l.below q a in let x = b.0 in let y = b.1 in let z = le in
+        (omega (arith, x, z), omega (arith, y, z))
+    below q (inr (inl is)) = subst (λ z. (z.one < length new)
+        × (z.other < length new)) is (
+          slice_get_within new p.one e.left n.left,
+          slice_get_within new p.other e.right n.right,
+        )
     below q (inr (inr h)) = absurd h
 
     kept : (t : Ident) → Among t old → Among t new
     kept t a = subst (λ z. Among t z) (sym n.grows.1) (among-left t old n.grows.0 a)
 
     sides : (x : Equation) → (e ≡ x) ⊎ Among x es → Among x.left new × Among x.right new
-    sides x (inl is) = subst (λ z. Among z.left new × Among z.right new) is (place-Among e.left new p.one n.left, place-Among e.right new p.other n.right)
+    sides x (inl is) = subst (λ z. Among z.left new
+        × Among z.right new) is (place-Among e.left new p.one n.left, place-Among e.right new p.other n.right)
     sides x (inr h) = let s = l.sides x h in (kept x.left s.0, kept x.right s.1)
 
 -- ---- all terms stand in the table
 
-pub listed-terms : (es : List Equation) (table : List Ident) (pairs : List NumberPair) → IsListed es table pairs → HasTerms es table
+pub listed-terms : (es : List Equation) (table : List Ident) (pairs : List NumberPair) → IsListed es table pairs
+    → HasTerms es table
 listed-terms es table pairs l = record { listed = λ t h. all es l.sides t h; only = l.only }
   where
-    all : (gs : List Equation) → ((e : Equation) → Among e gs → Among e.left table × Among e.right table) → (t : Ident) → Among t (terms_in gs) → Among t table
+    all : (gs : List Equation) → ((e : Equation) → Among e gs → Among e.left table × Among e.right table) → (t : Ident)
+        → Among t (terms_in gs) → Among t table
     all [] s t h = absurd h
     all (e ∷ gs) s t h = elim (among-either t (terms_of e.left) _ h) [
       | inl a ↦ terms-stand table l.ordered e.left t (s e (inl refl)).0 a
@@ -115,8 +137,10 @@ listed-terms es table pairs l = record { listed = λ t h. all es l.sides t h; on
 
 -- ---- an equation
 
-pub numbered-sides : (old mid new : List Ident) (e : Equation) (p : NumberPair) → slice_get mid p.one ≡ Some e.left → Grows old mid → ((t : Ident) → Among t mid → Among t old ⊎ Among t (terms_of e.left))
-    → slice_get new p.other ≡ Some e.right → Grows mid new → ((t : Ident) → Among t new → Among t mid ⊎ Among t (terms_of e.right)) → IsIdentTable new → IsNumbered old e new p
+pub numbered-sides : (old mid new : List Ident) (e : Equation) (p : NumberPair) → slice_get mid p.one ≡ Some e.left
+    → Grows old mid → ((t : Ident) → Among t mid → Among t old ⊎ Among t (terms_of e.left))
+    → slice_get new p.other ≡ Some e.right → Grows mid new
+    → ((t : Ident) → Among t new → Among t mid ⊎ Among t (terms_of e.right)) → IsIdentTable new → IsNumbered old e new p
 numbered-sides old mid new e p left (a, ga) pa right (b, gb) pb table = record {
   left = ap (λ l. slice_get l p.one) gb ∙ get-front mid b p.one e.left left;
   right = right;
@@ -127,13 +151,20 @@ numbered-sides old mid new e p left (a, ga) pa right (b, gb) pb table = record {
 
 -- ---- one step of the loop, and its end
 
-pub listing-step : (es : List Equation) (place : ℕ) (x : Equation) (old new : List Ident) (pairs then : List NumberPair) (p : NumberPair) → 0 < place → place ≤ length es → x ≡ get_or es (place - 1) x
-    → IsListed (drop place es) old pairs → IsNumbered old x new p → then ≡ pairs ++ p ∷ [] → IsListed (drop (place - 1) es) new then × (place - 1 ≤ length es)
+pub listing-step : (es : List Equation) (place : ℕ) (x : Equation) (old new : List Ident) (pairs then : List NumberPair)
+    (p : NumberPair) → 0 < place → place ≤ length es → x ≡ get_or es (place - 1) x
+    → IsListed (drop place es) old pairs → IsNumbered old x new p → then ≡ pairs ++ p ∷ []
+    → IsListed (drop (place - 1) es) new then × (place - 1 ≤ length es)
 listing-step es place x old new pairs then p some le is l n made =
     let lt : place - 1 < length es = omega (arith, some, le) in
     let next : place - 1 + 1 ≡ place = omega (arith, some) in
-    let front : drop (place - 1) es ≡ x ∷ drop place es = front_of es (place - 1) x lt is ∙ ap (λ k. x ∷ drop k es) next in
-    (subst (λ z. IsListed z new then) (sym front) (subst (IsListed (x ∷ drop place es) new) (sym made) (more-listed x (drop place es) old new pairs p l n)), omega (arith, le))
+    let front : drop (place - 1) es ≡ x ∷ drop place es = front_of es (place - 1) x lt is
+    ∙ ap (λ k. x ∷ drop k es) next in (
+      subst (λ z. IsListed z new then) (sym front) (subst (IsListed (x ∷ drop place es) new) (sym made)
+          (more-listed x (drop place es) old new pairs p l n)),
+      omega (arith, le),
+    )
 
-pub all-listed : (es : List Equation) (place : ℕ) (table : List Ident) (pairs : List NumberPair) → place ≡ 0 → IsListed (drop place es) table pairs → IsListed es table pairs
+pub all-listed : (es : List Equation) (place : ℕ) (table : List Ident) (pairs : List NumberPair) → place ≡ 0
+    → IsListed (drop place es) table pairs → IsListed es table pairs
 all-listed es place table pairs none l = subst (λ k. IsListed (drop k es) table pairs) none l

@@ -1,5 +1,6 @@
 -- What is built is made of the holes and heads of the equations.
-use Rattle.std.proofs.Common.{◌≡◌, ℕ, zero, suc, ◌<◌, ◌≤◌, List, [], ◌∷◌, map, inl, inr, refl, ap, sym, ◌∙◌, subst, arith}
+use Rattle.std.proofs.Common.{◌≡◌, ℕ, zero, suc, ◌<◌, ◌≤◌, List, [], ◌∷◌, map, inl, inr, refl, ap, sym, ◌∙◌, subst}
+use Rattle.std.proofs.Common.{arith}
 use Rattle.std.specs.Prelude.{Option, Some}
 use Rattle.ident_table.proofs.Numbering.{terms_below-out, terms_of-Module}
 use Rattle.bp_base.specs.declared.ident.Ident.{Ident}
@@ -24,7 +25,8 @@ use denote.Hole.Carrier.{hidden}
 
 among-lighter : (fs : List Fill) (f : Fill) → Among f fs → weight f.ident ≤ weights fs
 among-lighter [] f a = absurd a
-among-lighter (x ∷ fs) f (inl e) = let h : weight x.ident ≡ weight f.ident = ap (λ z. weight z.ident) e in omega (arith, h)
+among-lighter (x ∷ fs) f (inl e) = let h : weight x.ident ≡ weight f.ident = ap (λ z. weight z.ident) e in
+    omega (arith, h)
 among-lighter (x ∷ fs) f (inr a) = let h = among-lighter fs f a in omega (arith, h)
 
 occurs-module : (es : List Equation) (v u : OfUnit) (n : Text) → Among (Module v n) (terms_in es)
@@ -44,12 +46,14 @@ module _ (u : OfUnit) (l : List Fill) (n : Text) where
   weight-made : weight (made u l n) ≡ suc (weights l)
   weight-made = weight-Module unit n ∙ ap suc (weight_unit-out unit ∙ ap (λ o. weights o.fills) (out-roll-Unit _))
 
-  occurs-made : (es : List Equation) → Among (Module u n) (terms_in es) → map (λ f. f.hole) l ≡ holes_of u → Occurs es (made u l n)
+  occurs-made : (es : List Equation) → Among (Module u n) (terms_in es) → map (λ f. f.hole) l ≡ holes_of u
+      → Occurs es (made u l n)
   occurs-made es a h =
       occurs-module es u unit n a (sym (ap (λ o. o.component) (out-roll-Unit _)))
       (sym h ∙ sym (ap (λ o. map (λ f. f.hole) o.fills) (out-roll-Unit _)))
 
-module _ (es : List Equation) (nodes : List Node) (built : List (Option Ident)) (table : IsTable es nodes) (st : Stands es nodes built) where
+module _ (es : List Equation) (nodes : List Node) (built : List (Option Ident)) (table : IsTable es nodes)
+    (st : Stands es nodes built) where
   pub in-terms : (t : Ident) (k : ℕ) → In nodes t k → Among t (terms_in es)
   in-terms t k p = subst (λ v. Among v (terms_in es)) p.2 (table.only p.0 p.1)
 
@@ -57,17 +61,20 @@ module _ (es : List Equation) (nodes : List Node) (built : List (Option Ident)) 
   builds-holes fs l NoFills = refl
   builds-holes fs l (MoreFills f k t gs m p q b) = ap (λ z. f.hole ∷ z) (builds-holes gs m b)
 
-  builds-at : (fs l : List Fill) → Builds nodes built fs l → (f : Fill) → Among f l → (k : ℕ) × (built_at k built ≡ Some f.ident)
+  builds-at : (fs l : List Fill) → Builds nodes built fs l → (f : Fill) → Among f l
+      → (k : ℕ) × (built_at k built ≡ Some f.ident)
   builds-at fs l NoFills g a = absurd a
   builds-at fs l (MoreFills f k t gs m p q b) g (inl e) = (k, q ∙ ap (λ z. Some z.ident) e)
   builds-at fs l (MoreFills f k t gs m p q b) g (inr a) = builds-at gs m b g a
 
   -- whatever stands in what is built for a class
-  pub occurs-built : (w k : ℕ) (t : Ident) → weight t < w → built_at k built ≡ Some t → (s : Ident) → Among s (terms_of t) → Occurs es s
+  pub occurs-built : (w k : ℕ) (t : Ident) → weight t < w → built_at k built ≡ Some t → (s : Ident)
+      → Among s (terms_of t) → Occurs es s
   occurs-built zero k t lt b s a = absurd (omega (arith, lt))
   occurs-built (suc w) k t lt b s a = by (st.entries k t b) (λ l i light d h. occurs-built w l i light d s h)
     where
-      by : IsEntry nodes built k t → ((l : ℕ) (i : Ident) → weight i < w → built_at l built ≡ Some i → Among s (terms_of i) → Occurs es s) → Occurs es s
+      by : IsEntry nodes built k t → ((l : ℕ) (i : Ident) → weight i < w → built_at l built ≡ Some i
+          → Among s (terms_of i) → Occurs es s) → Occurs es s
       by (inl h) below = elim (subst (λ z. Among s (terms_of z)) h.is a) [
         | inl e ↦ subst (Occurs es) e (in-terms (Hole h.name) k h.listed)
         | inr n ↦ absurd n

@@ -31,14 +31,17 @@ terms_heads-Hole u m n = refl
 
 pub ruleset opening_equations = (terms_pairs-Modules, terms_heads-Modules, terms_pairs-Hole, terms_heads-Hole)
 
-pub term_edges-Module : (nodes : List Node) (k : ℕ) (u : OfUnit) (m : Text) → term_edges nodes k (Module u m) ≡ fills_edges nodes k (out-Unit u).fills (out-Unit u).fills
+pub term_edges-Module : (nodes : List Node) (k : ℕ) (u : OfUnit) (m : Text)
+    → term_edges nodes k (Module u m) ≡ fills_edges nodes k (out-Unit u).fills (out-Unit u).fills
 unfolding hidden-the_row-Unit-0 hidden
 term_edges-Module nodes k u m = refl
 
 pub ruleset edge_equations = (term_edges-Module)
 
 -- the edges of a module
-pub edges-step : (nodes : List Node) (k : ℕ) (a : Ident) (u : OfUnit) (m : Text) (fs : List Fill) (old new : List Edge) → a ≡ Module u m → fs ≡ (out-Unit u).fills
+pub edges-step : (nodes : List Node) (k : ℕ) (a : Ident) (u : OfUnit) (m : Text) (fs : List Fill) (old new : List Edge)
+    → a ≡ Module u m → fs ≡ (out-Unit u).fills
     → new ≡ old ++ fills_edges nodes k fs fs → new ≡ old ++ term_edges nodes k a
 edges-step nodes k a u m fs old new is fills made =
-    made ∙ (λ w. old ++ fills_edges nodes k (fills w) (fills w)) ∙ ap (λ l. old ++ l) (sym (term_edges-Module nodes k u m)) ∙ ap (λ z. old ++ term_edges nodes k z) (sym is)
+    made ∙ (λ w. old ++ fills_edges nodes k (fills w) (fills w))
+    ∙ ap (λ l. old ++ l) (sym (term_edges-Module nodes k u m)) ∙ ap (λ z. old ++ term_edges nodes k z) (sym is)

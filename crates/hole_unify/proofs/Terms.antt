@@ -5,7 +5,8 @@ use Rattle.ident_table.proofs.Numbering.{terms_below-out, terms_of-Module}
 use Rattle.bp_base.specs.declared.ident.Ident.{Ident}
 use Rattle.bp_base.specs.declared.ident.Ident.TheVariants.{Hole, Module, Module'}
 use Rattle.bp_base.specs.declared.ident.Unit.{Unit as OfUnit, Unit', out-Unit}
-use Rattle.bp_base.specs.declared.ident.Ident.TheBlock.{hidden-the_row-Unit-0, shown-the_row-Fill-1, end_of-Unit, more_of-Unit, Row_of-Fill, end_of-Fill, more_of-Fill}
+use Rattle.bp_base.specs.declared.ident.Ident.TheBlock.{hidden-the_row-Unit-0, shown-the_row-Fill-1, end_of-Unit}
+use Rattle.bp_base.specs.declared.ident.Ident.TheBlock.{more_of-Unit, Row_of-Fill, end_of-Fill, more_of-Fill}
 use Rattle.bp_base.proofs.Idents.{unit-same, Module-is, fills_of-list, fills_of, component-is}
 use Rattle.bp_base.proofs.Texts.{same_texts, texts_same}
 use Rattle.ident_table.specs.Parts.{terms_of, terms_of_row, terms_in_fills}
@@ -13,7 +14,8 @@ use Rattle.hole_unify.specs.Table.{is_module, is_same, is_same_unit, is_same_row
 use mathlib.Core.Former.{list_count, this, none_left}
 use denote.Hole.Carrier.{hidden, out, shown}
 
-terms-row : (c : List ℕ) (s : List (Unit {0})) (r : Row_of-Fill (list_count this s none_left)) → terms_of_row r ≡ terms_in_fills (out-Unit (Unit' c s r)).fills
+terms-row : (c : List ℕ) (s : List (Unit {0})) (r : Row_of-Fill (list_count this s none_left))
+    → terms_of_row r ≡ terms_in_fills (out-Unit (Unit' c s r)).fills
 unfolding out-Unit out shown-the_row-Fill-1 shown
 terms-row c [] end_of-Fill = refl
 terms-row c (x ∷ s) (more_of-Fill h i r) = ap (λ l. terms_of i ++ l) (terms-row c s r)

@@ -1,5 +1,6 @@
 -- Units of listed terms, and options.
-use Rattle.std.proofs.Common.{◌≡◌, Bool, true, false, cond, List, [], ◌∷◌, map, ◌⊎◌, inl, inr, refl, ap, sym, ◌∙◌, subst}
+use Rattle.std.proofs.Common.{◌≡◌, Bool, true, false, cond, List, [], ◌∷◌, map, ◌⊎◌, inl, inr, refl, ap, sym, ◌∙◌}
+use Rattle.std.proofs.Common.{subst}
 use Rattle.std.specs.Prelude.{Option, Some, None}
 use Rattle.std.specs.Str.{bytes_eq}
 use Rattle.bp_base.proofs.Sets.{among-left, among-right, among-either}
@@ -8,7 +9,8 @@ use Rattle.bp_base.specs.declared.ident.Ident.{Ident}
 use Rattle.bp_base.specs.declared.ident.Ident.TheVariants.{Hole, Module, Module'}
 use Rattle.bp_base.specs.declared.ident.Unit.{Unit as OfUnit, Unit'}
 use Rattle.bp_base.specs.declared.ident.Fill.{Fill}
-use Rattle.bp_base.specs.declared.ident.Ident.TheBlock.{end_of-Unit, more_of-Unit, Row_of-Fill, end_of-Fill, more_of-Fill}
+use Rattle.bp_base.specs.declared.ident.Ident.TheBlock.{end_of-Unit, more_of-Unit, Row_of-Fill, end_of-Fill}
+use Rattle.bp_base.specs.declared.ident.Ident.TheBlock.{more_of-Fill}
 use Rattle.bp_base.specs.Lists.{Among}
 use Rattle.bp_base.specs.Texts.{Text, Before, Rise, RiseAfter}
 use Rattle.bp_base.proofs.Texts.{same_texts, texts_same, Before-transitive, not_before_itself, Rise-after}
@@ -47,14 +49,16 @@ mutual
   unit-unit : (v u : OfUnit) (m : Text) → Among (Module u m) (terms_below v) → Among u (units_below v)
   unit-unit (Unit' c s r) u m h = row-unit r u m h
 
-  row-unit : {k : _} (r : Row_of-Fill k) (u : OfUnit) (m : Text) → Among (Module u m) (terms_of_row r) → Among u (units_of_row r)
+  row-unit : {k : _} (r : Row_of-Fill k) (u : OfUnit) (m : Text) → Among (Module u m) (terms_of_row r)
+      → Among u (units_of_row r)
   row-unit end_of-Fill u m h = absurd h
   row-unit (more_of-Fill n i r) u m h = elim (among-either (Module u m) (terms_of i) (terms_of_row r) h) [
     | inl a ↦ among-left u (units_of i) _ (term-unit i u m a)
     | inr b ↦ among-right u (units_of i) _ (row-unit r u m b)
   ]
 
-pub listed-unit : (es : List Equation) (u : OfUnit) (m : Text) → Among (Module u m) (terms_in es) → Among u (units_in es)
+pub listed-unit : (es : List Equation) (u : OfUnit) (m : Text) → Among (Module u m) (terms_in es)
+    → Among u (units_in es)
 listed-unit [] u m h = absurd h
 listed-unit (x ∷ es) u m h = elim (among-either (Module u m) (terms_of x.left) _ h) [
   | inl a ↦ among-left u (units_of x.left) _ (term-unit x.left u m a)
@@ -70,11 +74,15 @@ before-all h [] f r a = absurd a
 before-all h (x ∷ fs) f r (inl e) = subst (λ z. Before h z.hole) e r.0
 before-all h (x ∷ fs) f r (inr a) = Before-transitive h x.hole f.hole r.0 (before-all x.hole fs f r.1 a)
 
-pub found-among : (fs : List Fill) (f : Fill) → Rise (map (λ x. x.hole) fs) → Among f fs → found f.hole fs ≡ Some f.ident
+pub found-among : (fs : List Fill) (f : Fill) → Rise (map (λ x. x.hole) fs) → Among f fs
+    → found f.hole fs ≡ Some f.ident
 found-among [] f r a = absurd a
-found-among (x ∷ fs) f r (inl e) = ap (λ b. cond b (Some x.ident) (found f.hole fs)) (subst (λ z. bytes_eq x.hole z.hole ≡ true) e (texts_same x.hole)) ∙ ap (λ z. Some z.ident) e
+found-among (x ∷ fs) f r (inl e) = ap (λ b. cond b (Some x.ident) (found f.hole fs))
+    (subst (λ z. bytes_eq x.hole z.hole ≡ true) e (texts_same x.hole)) ∙ ap (λ z. Some z.ident) e
 found-among (x ∷ fs) f r (inr a) = by (bytes_eq x.hole f.hole) refl (found-among fs f (Rise-after x.hole _ r) a)
   where
-    by : (b : Bool) → bytes_eq x.hole f.hole ≡ b → found f.hole fs ≡ Some f.ident → cond b (Some x.ident) (found f.hole fs) ≡ Some f.ident
-    by true d k = absurd (not_before_itself f.hole (subst (λ z. Before z f.hole) (same_texts x.hole f.hole d) (before-all x.hole fs f r a)))
+    by : (b : Bool) → bytes_eq x.hole f.hole ≡ b → found f.hole fs ≡ Some f.ident
+        → cond b (Some x.ident) (found f.hole fs) ≡ Some f.ident
+    by true d k = absurd (not_before_itself f.hole
+        (subst (λ z. Before z f.hole) (same_texts x.hole f.hole d) (before-all x.hole fs f r a)))
     by false d k = k

@@ -1,5 +1,6 @@
 -- What is built from the classes of a table.
-use Rattle.std.specs.Prelude.{ℕ, ◌+◌, Bool, false, ◌&&◌, ◌||◌, List, [], ◌∷◌, ◌++◌, map, Option, Some, None, if◌then◌else◌, nat_eq, get_or, ◌<◌}
+use Rattle.std.specs.Prelude.{ℕ, ◌+◌, Bool, false, ◌&&◌, ◌||◌, List, [], ◌∷◌, ◌++◌, map, Option, Some, None}
+use Rattle.std.specs.Prelude.{if◌then◌else◌, nat_eq, get_or, ◌<◌}
 use Rattle.std.specs.Option.{option_or}
 use Rattle.std.specs.Ordering.{nat_cmp, is_lt}
 use Rattle.std.specs.Cmp.Lexicographic.{slice_cmp}
@@ -88,7 +89,8 @@ hole_ready nodes k = if has_module k nodes then None else hole_of (least_hole k 
 -- a class without a module is its least hole; else a module of it, with what is built for its fills
 abbrev pub term_ready : List Node → List (Option Ident) → ℕ → Ident → Option Ident
 term_ready nodes built k (Hole n) = hole_ready nodes k
-term_ready nodes built k (Module' s (more_of-Unit u end_of-Unit) m) = module_of u m (fills_built nodes built (out-Unit u).fills)
+term_ready nodes built k (Module' s (more_of-Unit u end_of-Unit) m) =
+    module_of u m (fills_built nodes built (out-Unit u).fills)
 
 abbrev pub entry_of : ℕ → Option Ident → Option Ident → Option Entry
 entry_of k (Some t) made = None

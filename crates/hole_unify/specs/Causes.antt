@@ -3,7 +3,8 @@ use Rattle.std.specs.Prelude.{◌≡◌, List, [], ◌∷◌, ◌++◌, map}
 use Rattle.bp_base.specs.declared.ident.Ident.{Ident}
 use Rattle.bp_base.specs.declared.ident.Ident.TheVariants.{Hole, Module'}
 use Rattle.bp_base.specs.declared.ident.Unit.{Unit as OfUnit, Unit', out-Unit}
-use Rattle.bp_base.specs.declared.ident.Ident.TheBlock.{end_of-Unit, more_of-Unit, Row_of-Fill, end_of-Fill, more_of-Fill}
+use Rattle.bp_base.specs.declared.ident.Ident.TheBlock.{end_of-Unit, more_of-Unit, Row_of-Fill, end_of-Fill}
+use Rattle.bp_base.specs.declared.ident.Ident.TheBlock.{more_of-Fill}
 use Rattle.bp_base.specs.Lists.{Among}
 use Rattle.bp_base.specs.Texts.{Text, Rise}
 use Rattle.hole_unify.specs.declared.equation.Equation.{Equation}
@@ -15,12 +16,14 @@ use Rattle.hole_unify.specs.Classes.{HasHeads, IsLeastCycle}
 
 -- the equation with the label is the first such that those up to it and with it, `front`, have no unifier
 pub record FailsAt (es front : List Equation) (label : Text) : Type 0 where
-  pub split : (before : List Equation) × (e : Equation) × (after : List Equation) × (front ≡ before ++ e ∷ []) × (es ≡ front ++ after) × (e.label ≡ label) × HasUnifier before
+  pub split : (before : List Equation) × (e : Equation) × (after : List Equation) × (front ≡ before ++ e ∷ [])
+      × (es ≡ front ++ after) × (e.label ≡ label) × HasUnifier before
   pub fails : HasUnifier front → ⊥
 
 abbrev pub IsCause : List Equation → IdentUnifyError → Type 0
 IsCause es (Clash label one other) = (front : List Equation) × FailsAt es front label × HasHeads front one other
-IsCause es (Cycle label hole) = (front : List Equation) × FailsAt es front label × ((one other : Head) → HasHeads front one other → ⊥) × IsLeastCycle front hole
+IsCause es (Cycle label hole) = (front : List Equation) × FailsAt es front label
+    × ((one other : Head) → HasHeads front one other → ⊥) × IsLeastCycle front hole
 IsCause es NoMemory = Unit {0}
 
 -- the units that occur in an identity
@@ -45,5 +48,6 @@ holes_of u = map (λ f. f.hole) (out-Unit u).fills
 
 -- units of one component have the same holes, and in each unit they rise strictly
 pub record IsLawful (es : List Equation) : Type 0 where
-  pub same_holes : (u v : OfUnit) → Among u (units_in es) → Among v (units_in es) → (out-Unit u).component ≡ (out-Unit v).component → holes_of u ≡ holes_of v
+  pub same_holes : (u v : OfUnit) → Among u (units_in es) → Among v (units_in es)
+      → (out-Unit u).component ≡ (out-Unit v).component → holes_of u ≡ holes_of v
   pub rising : (u : OfUnit) → Among u (units_in es) → Rise (holes_of u)

@@ -15,7 +15,9 @@ pub data Same (es : List Equation) : Ident → Ident → Type 0 where
   Itself : (a : Ident) → Same es a a
   Turned : (a b : Ident) → Same es a b → Same es b a
   Joined : (a b c : Ident) → Same es a b → Same es b c → Same es a c
-  AtHole : (u v : OfUnit) (m h : Text) (i j : Ident) → (out-Unit u).component ≡ (out-Unit v).component → Same es (Module u m) (Module v m) → found h (out-Unit u).fills ≡ Some i → found h (out-Unit v).fills ≡ Some j → Same es i j
+  AtHole : (u v : OfUnit) (m h : Text) (i j : Ident) → (out-Unit u).component ≡ (out-Unit v).component
+      → Same es (Module u m) (Module v m) → found h (out-Unit u).fills ≡ Some i → found h (out-Unit v).fills ≡ Some j
+      → Same es i j
 
 abbrev pub head_of : OfUnit → Text → Head
 head_of u m = record { component = (out-Unit u).component; «module» = m }
@@ -23,11 +25,13 @@ head_of u m = record { component = (out-Unit u).component; «module» = m }
 -- one class has these two different heads
 pub record HasHeads (es : List Equation) (one other : Head) : Type 0 where
   pub differ : one ≢ other
-  pub class : (u : OfUnit) × (v : OfUnit) × (m : Text) × (n : Text) × Same es (Module u m) (Module v n) × (head_of u m ≡ one) × (head_of v n ≡ other)
+  pub class : (u : OfUnit) × (v : OfUnit) × (m : Text) × (n : Text) × Same es (Module u m) (Module v n)
+      × (head_of u m ≡ one) × (head_of v n ≡ other)
 
 -- the class of one identity reaches that of another one through fills
 pub data Reaches (es : List Equation) : Ident → Ident → Type 0 where
-  Next : (a b : Ident) (u : OfUnit) (m h : Text) (i : Ident) → Same es a (Module u m) → found h (out-Unit u).fills ≡ Some i → Same es i b → Reaches es a b
+  Next : (a b : Ident) (u : OfUnit) (m h : Text) (i : Ident) → Same es a (Module u m)
+      → found h (out-Unit u).fills ≡ Some i → Same es i b → Reaches es a b
   Through : (a b c : Ident) → Reaches es a b → Reaches es b c → Reaches es a c
 
 -- the least hole whose class reaches itself

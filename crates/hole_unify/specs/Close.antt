@@ -1,5 +1,6 @@
 -- What follows where two classes become one, and what closing keeps.
-use Rattle.std.specs.Prelude.{◌≡◌, ℕ, ◌<◌, ◌&&◌, List, [], ◌∷◌, ◌++◌, map, Option, Some, None, if◌then◌else◌, nat_eq, nat_lt}
+use Rattle.std.specs.Prelude.{◌≡◌, ℕ, ◌<◌, ◌&&◌, List, [], ◌∷◌, ◌++◌, map, Option, Some, None, if◌then◌else◌, nat_eq}
+use Rattle.std.specs.Prelude.{nat_lt}
 use Rattle.std.specs.Str.{bytes_eq}
 use Rattle.bp_base.specs.declared.ident.Ident.{Ident}
 use Rattle.bp_base.specs.declared.ident.Ident.TheVariants.{Hole, Module, Module'}
@@ -48,10 +49,12 @@ fills_pairs ours theirs [] = []
 fills_pairs ours theirs (f ∷ rest) = fill_pair (found f.hole ours) (found f.hole theirs) ++ fills_pairs ours theirs rest
 
 abbrev pub units_pairs : OfUnit → Text → OfUnit → Text → List Pair
-units_pairs u m v n = if bytes_eq (out-Unit u).component (out-Unit v).component && bytes_eq m n then fills_pairs (out-Unit u).fills (out-Unit v).fills (out-Unit u).fills else []
+units_pairs u m v n = if bytes_eq (out-Unit u).component (out-Unit v).component && bytes_eq m n then fills_pairs
+    (out-Unit u).fills (out-Unit v).fills (out-Unit u).fills else []
 
 abbrev pub units_heads : OfUnit → Text → OfUnit → Text → Option (Head × Head)
-units_heads u m v n = if bytes_eq (out-Unit u).component (out-Unit v).component && bytes_eq m n then None else Some (head_of u m, head_of v n)
+units_heads u m v n = if bytes_eq (out-Unit u).component (out-Unit v).component && bytes_eq m n then None else Some
+    (head_of u m, head_of v n)
 
 -- the pairs that are to be one where two terms are of one class
 abbrev pub terms_pairs : Ident → Ident → List Pair
@@ -73,19 +76,23 @@ fill_numbers (Some i) (Some j) = record { one = i; other = j } ∷ []
 -- the fills of two modules hole by hole, where `rest` is what is left of the first one's
 abbrev pub fills_numbers : List NumberFill → List NumberFill → List NumberFill → List NumberPair
 fills_numbers ours theirs [] = []
-fills_numbers ours theirs (f ∷ rest) = fill_numbers (number_at f.hole ours) (number_at f.hole theirs) ++ fills_numbers ours theirs rest
+fills_numbers ours theirs (f ∷ rest) = fill_numbers (number_at f.hole ours) (number_at f.hole theirs)
+    ++ fills_numbers ours theirs rest
 
 -- the numbers that are to be of one class where two identities of a table are
 abbrev pub nodes_numbers : IdentNode → IdentNode → List NumberPair
 nodes_numbers (node.Hole m) b = []
 nodes_numbers (node.Module c fs m) (node.Hole n) = []
-nodes_numbers (node.Module c fs m) (node.Module d gs n) = if bytes_eq c d && bytes_eq m n then fills_numbers fs gs fs else []
+nodes_numbers (node.Module c fs m) (node.Module d gs n) =
+    if bytes_eq c d && bytes_eq m n then fills_numbers fs gs fs else []
 
 -- the heads of two identities of a table, where they are two
 abbrev pub nodes_heads : IdentNode → IdentNode → Option (Head × Head)
 nodes_heads (node.Hole m) b = None
 nodes_heads (node.Module c fs m) (node.Hole n) = None
-nodes_heads (node.Module c fs m) (node.Module d gs n) = if bytes_eq c d && bytes_eq m n then None else Some (record { component = c; «module» = m }, record { component = d; «module» = n })
+nodes_heads (node.Module c fs m) (node.Module d gs n) =
+    if bytes_eq c d && bytes_eq m n then None else Some
+    (record { component = c; «module» = m }, record { component = d; «module» = n })
 
 -- the first module of a class
 abbrev pub module_at : ℕ → List Node → Option Ident
@@ -106,17 +113,20 @@ modules_heads (Some a) (Some b) = terms_heads a b
 abbrev pub classes_pairs : Option ℕ → Option ℕ → List Node → List Pair
 classes_pairs None right nodes = []
 classes_pairs (Some k) None nodes = []
-classes_pairs (Some k) (Some l) nodes = if nat_lt k l then modules_pairs (module_at k nodes) (module_at l nodes) else (if nat_lt l k then modules_pairs (module_at l nodes) (module_at k nodes) else [])
+classes_pairs (Some k) (Some l) nodes = if nat_lt k l then modules_pairs (module_at k nodes) (module_at l nodes) else
+    (if nat_lt l k then modules_pairs (module_at l nodes) (module_at k nodes) else [])
 
 abbrev pub classes_heads : Option ℕ → Option ℕ → List Node → Option (Head × Head)
 classes_heads None right nodes = None
 classes_heads (Some k) None nodes = None
-classes_heads (Some k) (Some l) nodes = if nat_lt k l then modules_heads (module_at k nodes) (module_at l nodes) else (if nat_lt l k then modules_heads (module_at l nodes) (module_at k nodes) else None)
+classes_heads (Some k) (Some l) nodes = if nat_lt k l then modules_heads (module_at k nodes) (module_at l nodes) else
+    (if nat_lt l k then modules_heads (module_at l nodes) (module_at k nodes) else None)
 
 abbrev pub classes_moved : Option ℕ → Option ℕ → List Node → List Node
 classes_moved None right nodes = nodes
 classes_moved (Some k) None nodes = nodes
-classes_moved (Some k) (Some l) nodes = if nat_lt k l then moved l k nodes else (if nat_lt l k then moved k l nodes else nodes)
+classes_moved (Some k) (Some l) nodes = if nat_lt k l then moved l k nodes else
+    (if nat_lt l k then moved k l nodes else nodes)
 
 -- the sides of each equation, those of the first one last
 abbrev pub stated_pairs : List Equation → List Pair
@@ -125,9 +135,12 @@ stated_pairs (e ∷ es) = stated_pairs es ++ record { one = e.left; other = e.ri
 
 -- modules of one class have one head, and their fills at one hole are of one class
 pub record IsEven (nodes : List Node) : Type 0 where
-  pub heads : (u v : OfUnit) (m n : Text) (k : ℕ) → In nodes (Module u m) k → In nodes (Module v n) k → ((out-Unit u).component ≡ (out-Unit v).component) × (m ≡ n)
-  pub fills : (u v : OfUnit) (m n h : Text) (k p q : ℕ) (i j : Ident) → In nodes (Module u m) k → In nodes (Module v n) k
-      → found h (out-Unit u).fills ≡ Some i → found h (out-Unit v).fills ≡ Some j → class_at i nodes ≡ Some p → class_at j nodes ≡ Some q → p ≡ q
+  pub heads : (u v : OfUnit) (m n : Text) (k : ℕ) → In nodes (Module u m) k → In nodes (Module v n) k
+      → ((out-Unit u).component ≡ (out-Unit v).component) × (m ≡ n)
+  pub fills : (u v : OfUnit) (m n h : Text) (k p q : ℕ) (i j : Ident) → In nodes (Module u m) k
+      → In nodes (Module v n) k
+      → found h (out-Unit u).fills ≡ Some i → found h (out-Unit v).fills ≡ Some j → class_at i nodes ≡ Some p
+      → class_at j nodes ≡ Some q → p ≡ q
 
 -- a closed table of the equations
 pub record IsSettled (es : List Equation) (nodes : List Node) : Type 0 where

@@ -28,7 +28,8 @@ rises (x ∷ xs) = rise_after x.hole xs
 
 -- units of one component have the same holes
 abbrev pub agree : OfUnit → OfUnit → Bool
-agree u v = not (bytes_eq (out-Unit u).component (out-Unit v).component) || same_holes (out-Unit u).fills (out-Unit v).fills
+agree u v = not (bytes_eq (out-Unit u).component (out-Unit v).component) || same_holes (out-Unit u).fills
+    (out-Unit v).fills
 
 abbrev pub agrees_with : OfUnit → List OfUnit → Bool
 agrees_with u [] = true

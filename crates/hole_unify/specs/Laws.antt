@@ -32,8 +32,10 @@ SameCause (Cycle label hole) (Cycle label' hole') = (label ≡ label') × (hole 
 
 -- two causes have one kind, one label and one hole
 abbrev pub CausesAreOne : Type 0
-CausesAreOne = (es : List Equation) (one other : IdentUnifyError) → IsCause es one → IsCause es other → SameCause one other
+CausesAreOne = (es : List Equation) (one other : IdentUnifyError) → IsCause es one → IsCause es other
+    → SameCause one other
 
 -- no cause but want of memory stands beside an answer
 abbrev pub NoCauseBesideAnswer : Type 0
-NoCauseBesideAnswer = (es : List Equation) (f : List Fill) (e : IdentUnifyError) → IsAnswer es f → IsCause es e → e ≡ NoMemory
+NoCauseBesideAnswer = (es : List Equation) (f : List Fill) (e : IdentUnifyError) → IsAnswer es f → IsCause es e
+    → e ≡ NoMemory

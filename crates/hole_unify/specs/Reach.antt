@@ -1,5 +1,6 @@
 -- Which classes a class reaches through fills.
-use Rattle.std.specs.Prelude.{◌≡◌, ℕ, zero, suc, ◌<◌, ◌+◌, Bool, true, false, ◌&&◌, ◌||◌, not, List, [], ◌∷◌, ◌++◌, length, get_or, Option, Some, None, if◌then◌else◌, nat_eq, map}
+use Rattle.std.specs.Prelude.{◌≡◌, ℕ, zero, suc, ◌<◌, ◌+◌, Bool, true, false, ◌&&◌, ◌||◌, not, List, [], ◌∷◌, ◌++◌}
+use Rattle.std.specs.Prelude.{length, get_or, Option, Some, None, if◌then◌else◌, nat_eq, map}
 use Rattle.std.specs.Ordering.{nat_cmp}
 use Rattle.std.specs.Cmp.Lexicographic.{slice_cmp}
 use Rattle.std.specs.declared.cmp.Ordering.{Ordering}
@@ -34,7 +35,8 @@ fills_edges nodes from all (f ∷ rest) = fill_edge nodes from (found f.hole all
 
 abbrev pub term_edges : List Node → ℕ → Ident → List Edge
 term_edges nodes from (Hole n) = []
-term_edges nodes from (Module' s (more_of-Unit u end_of-Unit) m) = fills_edges nodes from (out-Unit u).fills (out-Unit u).fills
+term_edges nodes from (Module' s (more_of-Unit u end_of-Unit) m) =
+    fills_edges nodes from (out-Unit u).fills (out-Unit u).fills
 
 -- from the class of each module to those of its fills
 abbrev pub edges_of : List Node → List Node → List Edge
@@ -48,7 +50,8 @@ number_edge classes from (Some n) = record { from = from; to = get_or classes n 
 
 abbrev pub number_edges : List ℕ → ℕ → List NumberFill → List NumberFill → List Edge
 number_edges classes from all [] = []
-number_edges classes from all (f ∷ rest) = number_edge classes from (number_at f.hole all) ++ number_edges classes from all rest
+number_edges classes from all (f ∷ rest) = number_edge classes from (number_at f.hole all)
+    ++ number_edges classes from all rest
 
 abbrev pub node_edges : List ℕ → ℕ → IdentNode → List Edge
 node_edges classes from (node.Hole n) = []
@@ -92,7 +95,8 @@ all_visited done (k ∷ ks) = all_visited (visited done k) ks
 -- the first class that one step more reaches
 abbrev pub next_reached : ℕ → List ℕ → List Edge → Option ℕ
 next_reached k done [] = None
-next_reached k done (e ∷ es) = if (nat_eq e.from k || holds e.from done) && not (holds e.to done) then Some e.to else next_reached k done es
+next_reached k done (e ∷ es) = if (nat_eq e.from k || holds e.from done) && not
+    (holds e.to done) then Some e.to else next_reached k done es
 
 abbrev pub with_one : List ℕ → Option ℕ → List ℕ
 with_one done None = done
@@ -112,7 +116,8 @@ Fall ranks edges = (e : Edge) → Among e edges → get_or ranks e.to 0 < get_or
 
 -- whether the start is among those that are reached
 abbrev pub IsReached : List (List ℕ) → ℕ → List ℕ → Type 0
-IsReached lists start done = (edges : List Edge) → lists ≡ ends_upto (length lists) edges → holds start done ≡ on_cycle start edges
+IsReached lists start done = (edges : List Edge) → lists ≡ ends_upto (length lists) edges
+    → holds start done ≡ on_cycle start edges
 
 -- the lesser of two names, where there are two
 abbrev pub before : Ordering → Text → Text → Text

@@ -1,5 +1,6 @@
 -- Building by numbers of a table, and answers by numbers.
-use Rattle.std.specs.Prelude.{◌≡◌, ℕ, map, ◌+◌, ◌<◌, ◌≤◌, Bool, true, false, List, [], ◌∷◌, ◌++◌, length, Option, Some, None, if◌then◌else◌, get_or}
+use Rattle.std.specs.Prelude.{◌≡◌, ℕ, map, ◌+◌, ◌<◌, ◌≤◌, Bool, true, false, List, [], ◌∷◌, ◌++◌, length, Option, Some}
+use Rattle.std.specs.Prelude.{None, if◌then◌else◌, get_or}
 use Rattle.std.specs.Ordering.{nat_cmp, is_lt}
 use Rattle.std.specs.Cmp.Lexicographic.{slice_cmp}
 use Rattle.std.specs.Str.{bytes_eq}
@@ -37,7 +38,8 @@ with_number h (Some n) (Some fs) = Some (record { hole = h; ident = n } ∷ fs)
 -- what is built for the fills of a unit, where all are built
 abbrev pub numbers_built : List ℕ → List (Option ℕ) → List NumberFill → Option (List NumberFill)
 numbers_built classes built [] = Some []
-numbers_built classes built (f ∷ fs) = with_number f.hole (built_for classes built f.ident) (numbers_built classes built fs)
+numbers_built classes built (f ∷ fs) = with_number f.hole (built_for classes built f.ident)
+    (numbers_built classes built fs)
 
 abbrev pub numbers_fronted : List NumberFill → Option (List NumberFill) → Option (List NumberFill)
 numbers_fronted front None = None
@@ -75,13 +77,17 @@ pub record IsStage (table : List Ident) (classes : List ℕ) (built : List (Opti
   pub below : AreBuiltBelow (length table) built
 
 -- what was built still stands in a later table
-pub record Follows (classes : List ℕ) (table : List Ident) (built : List (Option ℕ)) (later : List Ident) (after : List (Option ℕ)) : Type 0 where
+pub record Follows (classes : List ℕ) (table : List Ident) (built : List (Option ℕ)) (later : List Ident)
+    (after : List (Option ℕ)) : Type 0 where
   pub grows : Grows table later
-  pub stands : (es : List Equation) → IsTable es (nodes_of table classes) → Stands es (nodes_of table classes) (built_of table built) → Stands es (nodes_of table classes) (built_of later after)
+  pub stands : (es : List Equation) → IsTable es (nodes_of table classes)
+      → Stands es (nodes_of table classes) (built_of table built)
+      → Stands es (nodes_of table classes) (built_of later after)
 
 -- where no class was built more, this is so
 abbrev pub Steps : List ℕ → List Ident → List (Option ℕ) → List Ident → List (Option ℕ) → Type 0 → Bool → Type 0
-Steps classes table built later after Stopped true = Follows classes table built later after × (unbuilt_classes after < unbuilt_classes built)
+Steps classes table built later after Stopped true = Follows classes table built later after
+    × (unbuilt_classes after < unbuilt_classes built)
 Steps classes table built later after Stopped false = (later ≡ table) × (after ≡ built) × Stopped
 
 -- ---- answers
@@ -98,6 +104,7 @@ is_first h (x ∷ xs) = bytes_eq x.hole h
 
 -- a fill is put among others, unless they have one for its hole
 pub record Puts (f : NumberFill) (old new : List NumberFill) : Type 0 where
-  pub puts : (table : List Ident) → fills_of table new ≡ put (fill_of table f) (found f.hole (fills_of table old)) (fills_of table old)
+  pub puts : (table : List Ident) → fills_of table new ≡ put (fill_of table f) (found f.hole (fills_of table old))
+      (fills_of table old)
   pub rise : Rise (map (λ x. x.hole) new)
   pub below : (n : ℕ) → AreFillsBelow n old → f.ident < n → AreFillsBelow n new

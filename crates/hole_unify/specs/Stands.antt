@@ -17,7 +17,9 @@ use Rattle.hole_unify.specs.Build.{built_at}
 -- the fills that are built stand in parallel
 pub data Builds (nodes : List Node) (built : List (Option Ident)) : List Fill → List Fill → Type 0 where
   NoFills : Builds nodes built [] []
-  MoreFills : (f : Fill) (k : ℕ) (t : Ident) (fs l : List Fill) → class_at f.ident nodes ≡ Some k → built_at k built ≡ Some t → Builds nodes built fs l → Builds nodes built (f ∷ fs) (record { hole = f.hole; ident = t } ∷ l)
+  MoreFills : (f : Fill) (k : ℕ) (t : Ident) (fs l : List Fill) → class_at f.ident nodes ≡ Some k
+      → built_at k built ≡ Some t → Builds nodes built fs l
+      → Builds nodes built (f ∷ fs) (record { hole = f.hole; ident = t } ∷ l)
 
 abbrev pub made : OfUnit → List Fill → Text → Ident
 made u l m = Module (roll-Unit (record { component = (out-Unit u).component; fills = l })) m
@@ -45,4 +47,5 @@ IsEntry nodes built k t = IsHole nodes k t ⊎ IsMade nodes built k t
 -- each entry is of its class, and every unifier makes of it what it makes of the terms of the class
 pub record Stands (es : List Equation) (nodes : List Node) (built : List (Option Ident)) : Type 0 where
   pub entries : (k : ℕ) (t : Ident) → built_at k built ≡ Some t → IsEntry nodes built k t
-  pub general : (g : List Fill) → IsUnifier es g → (k : ℕ) (a t : Ident) → built_at k built ≡ Some t → In nodes a k → filled t g ≡ filled a g
+  pub general : (g : List Fill) → IsUnifier es g → (k : ℕ) (a t : Ident) → built_at k built ≡ Some t → In nodes a k
+      → filled t g ≡ filled a g

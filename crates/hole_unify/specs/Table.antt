@@ -1,10 +1,12 @@
 -- The table of terms, and joining of classes.
-use Rattle.std.specs.Prelude.{ℕ, zero, suc, Bool, true, false, ◌&&◌, List, [], ◌∷◌, ◌++◌, map, Option, Some, None, if◌then◌else◌, nat_eq}
+use Rattle.std.specs.Prelude.{ℕ, zero, suc, Bool, true, false, ◌&&◌, List, [], ◌∷◌, ◌++◌, map, Option, Some, None}
+use Rattle.std.specs.Prelude.{if◌then◌else◌, nat_eq}
 use Rattle.std.specs.Str.{bytes_eq}
 use Rattle.bp_base.specs.declared.ident.Ident.{Ident}
 use Rattle.bp_base.specs.declared.ident.Ident.TheVariants.{Hole, Module'}
 use Rattle.bp_base.specs.declared.ident.Unit.{Unit as OfUnit, Unit'}
-use Rattle.bp_base.specs.declared.ident.Ident.TheBlock.{end_of-Unit, more_of-Unit, Row_of-Fill, end_of-Fill, more_of-Fill}
+use Rattle.bp_base.specs.declared.ident.Ident.TheBlock.{end_of-Unit, more_of-Unit, Row_of-Fill, end_of-Fill}
+use Rattle.bp_base.specs.declared.ident.Ident.TheBlock.{more_of-Fill}
 use Rattle.bp_base.specs.Lists.{Among}
 use Rattle.ident_table.specs.Parts.{terms_of}
 use Rattle.hole_unify.specs.declared.equation.Equation.{Equation}
@@ -20,7 +22,8 @@ abbrev mutual
   is_same (Hole n) (Hole m) = bytes_eq n m
   is_same (Hole n) (Module' s r m) = false
   is_same (Module' s r m) (Hole n) = false
-  is_same (Module' s (more_of-Unit u end_of-Unit) m) (Module' t (more_of-Unit v end_of-Unit) n) = bytes_eq m n && is_same_unit u v
+  is_same (Module' s (more_of-Unit u end_of-Unit) m) (Module' t (more_of-Unit v end_of-Unit) n) =
+      bytes_eq m n && is_same_unit u v
 
   pub is_same_unit : OfUnit → OfUnit → Bool
   is_same_unit (Unit' c s r) (Unit' d t q) = bytes_eq c d && is_same_row r q

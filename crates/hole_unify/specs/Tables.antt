@@ -15,7 +15,8 @@ In nodes t k = (x : Node) × Among x nodes × (x.ident ≡ t) × (x.class ≡ k)
 abbrev pub One : List Node → Ident → Ident → Type 0
 One nodes a b = (k : ℕ) × In nodes a k × In nodes b k
 
--- the table of the terms of these equations: equal terms have one class, whose number is below the number of nodes, and terms of
+-- the table of the terms of these equations: equal terms have one class, whose number is below the number of nodes, and
+-- terms of
 -- one class are the same by the equations
 pub record IsTable (es : List Equation) (nodes : List Node) : Type 0 where
   pub listed : (t : Ident) → Among t (terms_in es) → (k : ℕ) × In nodes t k

@@ -14,7 +14,8 @@ IsUnifier (e ∷ es) f = (filled e.left f ≡ filled e.right f) × IsUnifier es 
 abbrev pub HasUnifier : List Equation → Type 0
 HasUnifier es = (f : List Fill) × IsUnifier es f
 
--- A most general unifier, where holes that become one bear the least of their names: every unifier is the answer followed by
+-- A most general unifier, where holes that become one bear the least of their names: every unifier is the answer
+-- followed by
 -- itself. Fills that leave a hole as it is are left out.
 pub record IsAnswer (es : List Equation) (f : List Fill) : Type 0 where
   pub unifies : IsUnifier es f

@@ -30,7 +30,8 @@ Decides-fill f g = (
       let hole = (Decides-texts f.hole g.hole).0 p.0 in
       let ident = (Decides-eqb f.ident g.ident).0 p.1 in
       λ i. record { hole = hole i; ident = ident i }),
-  (λ e. and_from _ _ ((Decides-texts f.hole g.hole).1 (ap (λ x. x.hole) e)) ((Decides-eqb f.ident g.ident).1 (ap (λ x. x.ident) e))),
+  (λ e. and_from _ _ ((Decides-texts f.hole g.hole).1 (ap (λ x. x.hole) e))
+      ((Decides-eqb f.ident g.ident).1 (ap (λ x. x.ident) e))),
 )
 
 Decides-fills : (fs gs : List NumberFill) → Decides (pointwise fill_eq fs gs) (fs ≡ gs)
@@ -50,10 +51,12 @@ same-nodes (node.Module c fs n) (node.Module d gs m) e =
 
 pub nodes-same : (x : IdentNode) → node_eq x x ≡ true
 nodes-same (node.Hole n) = (Decides-texts n n).1 refl
-nodes-same (node.Module c fs n) = and_from _ _ ((Decides-texts c c).1 refl) (and_from _ _ ((Decides-fills fs fs).1 refl) ((Decides-texts n n).1 refl))
+nodes-same (node.Module c fs n) = and_from _ _ ((Decides-texts c c).1 refl)
+    (and_from _ _ ((Decides-fills fs fs).1 refl) ((Decides-texts n n).1 refl))
 
 -- a node that the test does not find stands nowhere
-pub node-absent : (nodes : List IdentNode) (x : IdentNode) (k : ℕ) → list_any (node_eq x) nodes ≡ false → slice_get nodes k ≡ Some x → ⊥
+pub node-absent : (nodes : List IdentNode) (x : IdentNode) (k : ℕ) → list_any (node_eq x) nodes ≡ false
+    → slice_get nodes k ≡ Some x → ⊥
 node-absent [] x k e is = absurd (cc is)
 node-absent (y ∷ ys) x zero e is =
     let found : node_eq x y ≡ true = ap (node_eq x) (same_Some y x is) ∙ nodes-same x in

@@ -45,7 +45,8 @@ IsNodeBelow n (node.Module c fs m) = AreFillsBelow n fs
 -- each identity stands once, after those that it is made of
 pub record IsIdentTable (table : List Ident) : Type 0 where
   pub once : (i j : ℕ) (t : Ident) → slice_get table i ≡ Some t → slice_get table j ≡ Some t → i ≡ j
-  pub below : (k : ℕ) (u : OfUnit) (m : Text) → slice_get table k ≡ Some (Module u m) → (f : Fill) → Among f (out-Unit u).fills → (j : ℕ) × (j < k) × (slice_get table j ≡ Some f.ident)
+  pub below : (k : ℕ) (u : OfUnit) (m : Text) → slice_get table k ≡ Some (Module u m) → (f : Fill)
+      → Among f (out-Unit u).fills → (j : ℕ) × (j < k) × (slice_get table j ≡ Some f.ident)
 
 -- more stands at the end
 abbrev pub Grows : List Ident → List Ident → Type 0

@@ -1,10 +1,12 @@
 -- The steps of the reader of identities, which proofs about its code speak of; no public clause does.
-use Rattle.std.specs.Prelude.{◌≡◌, ℕ, zero, suc, ◌+◌, Bool, true, false, ◌||◌, ◌==◌, List, [], ◌∷◌, ◌++◌, length, Option, Some, None, if◌then◌else◌}
+use Rattle.std.specs.Prelude.{◌≡◌, ℕ, zero, suc, ◌+◌, Bool, true, false, ◌||◌, ◌==◌, List, [], ◌∷◌, ◌++◌, length}
+use Rattle.std.specs.Prelude.{Option, Some, None, if◌then◌else◌}
 use Rattle.bp_base.specs.declared.ident.Ident.{Ident}
 use Rattle.bp_base.specs.declared.ident.Ident.TheVariants.{Hole, Module, Module'}
 use Rattle.bp_base.specs.declared.ident.Unit.{Unit as OfUnit, Unit'}
 use Rattle.bp_base.specs.declared.ident.Fill.{Fill}
-use Rattle.bp_base.specs.declared.ident.Ident.TheBlock.{end_of-Unit, more_of-Unit, Row_of-Fill, end_of-Fill, more_of-Fill}
+use Rattle.bp_base.specs.declared.ident.Ident.TheBlock.{end_of-Unit, more_of-Unit, Row_of-Fill, end_of-Fill}
+use Rattle.bp_base.specs.declared.ident.Ident.TheBlock.{more_of-Fill}
 use Rattle.bp_base.specs.declared.ident.Ident.TheViews.{roll-Unit}
 
 -- one of , / < = > [ ]
@@ -35,7 +37,10 @@ then_read None go = None
 then_read (Some p) go = go p.0 p.1
 
 abbrev pub read_module : List ℕ → List Fill → List ℕ → Option (Ident × List ℕ)
-read_module c fs bs = after 47 bs (λ r. Some (Module (roll-Unit (record { component = c; fills = fs })) (name_of r), (rest_of r)))
+read_module c fs bs = after 47 bs (λ r. Some (
+  Module (roll-Unit (record { component = c; fills = fs })) (name_of r),
+  (rest_of r),
+))
 
 -- the head of a list, or 0
 abbrev pub front : List ℕ → ℕ
@@ -55,7 +60,8 @@ abbrev mutual
   read zero bs = None
   read (suc n) bs =
       if front bs == 60 then after 62 (rest_of (back bs)) (λ r. Some (Hole (name_of (back bs)), r))
-      else (if front (rest_of bs) == 91 then then_read (read_fills n (back (rest_of bs))) (λ fs r. read_module (name_of bs) fs r)
+      else (if front (rest_of bs) == 91 then then_read (read_fills n (back (rest_of bs)))
+      (λ fs r. read_module (name_of bs) fs r)
       else read_module (name_of bs) [] (rest_of bs))
 
   pub read_fills : ℕ → List ℕ → Option (List Fill × List ℕ)

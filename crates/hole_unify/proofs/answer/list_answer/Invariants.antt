@@ -7,7 +7,8 @@ use Rattle.hole_unify.proofs.answer.list_answer.Given as goal
 
 abbrev pub invariant-loop-number : goal.invariant-loop-number
 invariant-loop-number l = record {
-  so_far : answer (built_of l.table l.built) (drop l.number (nodes_of l.table l.classes)) (fills_of l.table l.fills.items) ≡ answer (built_of l.table l.built) (nodes_of l.table l.classes) [];
+  so_far : answer (built_of l.table l.built) (drop l.number (nodes_of l.table l.classes))
+      (fills_of l.table l.fills.items) ≡ answer (built_of l.table l.built) (nodes_of l.table l.classes) [];
   rise : Rise (map (λ f. f.hole) l.fills.items);
   below : AreFillsBelow (length l.table) l.fills.items;
 }

@@ -8,5 +8,7 @@ abbrev pub invariant-loop-number : goal.invariant-loop-number
 invariant-loop-number l = record {
   stage : IsStage l.table l.classes l.built;
   steps : Steps l.classes l.fn.table l.fn.built l.table l.built
-      (first_ready (nodes_of l.fn.table l.classes) (built_of l.fn.table l.fn.built) (drop l.number (nodes_of l.fn.table l.classes)) ≡ first_ready (nodes_of l.fn.table l.classes) (built_of l.fn.table l.fn.built) (nodes_of l.fn.table l.classes)) l.more;
+      (first_ready (nodes_of l.fn.table l.classes) (built_of l.fn.table l.fn.built)
+      (drop l.number (nodes_of l.fn.table l.classes)) ≡ first_ready (nodes_of l.fn.table l.classes)
+      (built_of l.fn.table l.fn.built) (nodes_of l.fn.table l.classes)) l.more;
 }

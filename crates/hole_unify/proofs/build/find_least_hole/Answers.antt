@@ -14,12 +14,14 @@ loop-number-preserved c =
         | then-each-class w ↦ (
           lesser old.0 (hole_at c.args.table.now c.loop-number.number),
           ap (number_built c.args.table.now) w.best-is ∙ w.lesser_number-best.ensures.lesser old.0 old.1,
-          least-here c.args.table.now c.args.classes.now c.loop-number.number c.args.class c.requires c.loop-number-test.true old.0 _ old.2 w.if-each-class.true,
+          least-here c.args.table.now c.args.classes.now c.loop-number.number c.args.class c.requires
+              c.loop-number-test.true old.0 _ old.2 w.if-each-class.true,
         )
         | else-each-class w ↦ (
           old.0,
           ap (number_built c.args.table.now) w.best-is ∙ old.1,
-          least-step c.args.table.now c.args.classes.now c.loop-number.number c.args.class c.requires c.loop-number-test.true old.0 _ old.2 w.if-each-class.false,
+          least-step c.args.table.now c.args.classes.now c.loop-number.number c.args.class c.requires
+              c.loop-number-test.true old.0 _ old.2 w.if-each-class.false,
         )
       ];
       below = λ k e. elim c.if-each-class.branch [
@@ -31,4 +33,5 @@ loop-number-preserved c =
 pub returns-clause-least : goal.returns-clause-least
 returns-clause-least c =
     let old = c.loop-number.invariant.least in
-    old.1 ∙ ap hole_of (least-end c.args.table.now c.args.classes.now c.loop-number.number c.args.class old.0 _ c.requires (omega arith) old.2)
+    old.1 ∙ ap hole_of (least-end c.args.table.now c.args.classes.now c.loop-number.number c.args.class old.0 _
+    c.requires (omega arith) old.2)

@@ -4,4 +4,5 @@ use Rattle.hole_unify.proofs.Numbering.{nodes_of-moved}
 use Rattle.hole_unify.proofs.close.join_classes.Goals as goal
 
 pub returns-clause-classes : goal.returns-clause-classes
-returns-clause-classes c = ap (nodes_of c.args.table.now) c.join.ensures ∙ nodes_of-moved c.args.from c.args.to c.args.table.now c.args.classes.now
+returns-clause-classes c = ap (nodes_of c.args.table.now) c.join.ensures
+    ∙ nodes_of-moved c.args.from c.args.to c.args.table.now c.args.classes.now

@@ -5,5 +5,6 @@ use Rattle.hole_unify.proofs.solve.refusal.Goals as goal
 
 pub returns : goal.returns
 returns c = subst (IsCause c.args.equations.now) (sym c.with_label-error.ensures)
-    (cause c.args.equations.now c.in_ok-first.first.low c.in_ok-first.first.obstacle c.index-equations-first.result c.in_ok-label.label c.in_ok-first.ensures c.index-equations-first.is
+    (cause c.args.equations.now c.in_ok-first.first.low c.in_ok-first.first.obstacle c.index-equations-first.result
+    c.in_ok-label.label c.in_ok-first.ensures c.index-equations-first.is
     (c.in_ok-label.ensures ∙ ap (λ z. z.label) (sym c.index-equations-first.is)))

@@ -7,4 +7,5 @@ pub returns-clause-len : goal.returns-clause-len
 returns-clause-len c = c.len.ensures.len ∙ sym (length-idents c.self.inside.nodes.keys) ∙ ap length c.self.view_is
 
 pub returns-clause-table : goal.returns-clause-table
-returns-clause-table c = subst IsIdentTable c.self.view_is (IsIdentTable-nodes c.self.inside.nodes.keys c.self.invariant)
+returns-clause-table c = subst IsIdentTable c.self.view_is
+    (IsIdentTable-nodes c.self.inside.nodes.keys c.self.invariant)

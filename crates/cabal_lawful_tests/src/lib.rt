@@ -1,0 +1,5 @@
+//! Worked values of `cabal_lawful`.
+#![tactic(auto)]
+
+#[cfg(test)]
+mod tests;
