@@ -2,10 +2,10 @@
 ghost use Rattle.std.specs.Prelude.{◌≡◌, ◌↔◌, List, map, IsTrue, MatchResult, Some, None};
 ghost use Rattle.hs_tokens.specs.Terminals.{terminal_of};
 ghost use Rattle.hs_trees.specs.Kinds.{kind_form};
-ghost use Rattle.hs_trees.specs.Whole.{IsWhole, IsAnswer, Begins, Spells};
+ghost use Rattle.hs_forms.specs.Whole.{IsWhole, IsAnswer, Begins, Spells};
 ghost use Rattle.hs_tokens.specs.declared.terminal.Terminal.{Terminal};
 ghost use Rattle.hs_trees.specs.declared.types.KindTree.{KindTree};
-ghost use Rattle.hs_trees.specs.declared.error.ParseError.TheVariants.{NoMemory};
+ghost use Rattle.hs_forms.specs.declared.error.ParseError.TheVariants.{NoMemory};
 
 use crate::kinds::read_kind;
 use crate::limit::MAX_DEPTH;

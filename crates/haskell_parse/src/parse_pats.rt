@@ -1,14 +1,14 @@
 //! The pattern that tokens spell.
 ghost use Rattle.std.specs.Prelude.{◌≡◌, ◌↔◌, ◌∷◌, ◌++◌, List, map, not, true, false, IsTrue, MatchResult, Some, None};
 ghost use Rattle.hs_trees.specs.Hits.{hits, follows_guard};
-ghost use Rattle.hs_trees.specs.Reading.{begins};
+ghost use Rattle.hs_forms.specs.Reading.{begins};
 ghost use Rattle.hs_tokens.specs.Terminals.{terminal_of};
 ghost use Rattle.hs_trees.specs.Patterns.{pat_form, spelling_pat};
-ghost use Rattle.hs_trees.specs.Whole.{IsWhole, IsAnswer, Begins, Spells};
+ghost use Rattle.hs_forms.specs.Whole.{IsWhole, IsAnswer, Begins, Spells};
 ghost use Rattle.hs_tokens.specs.declared.terminal.Terminal.{Terminal};
 ghost use Rattle.hs_tokens.specs.declared.terminal.Terminal.TheVariants.{LeftArrow};
 ghost use Rattle.hs_trees.specs.declared.patterns.PatTree.{PatTree};
-ghost use Rattle.hs_trees.specs.declared.error.ParseError.TheVariants.{NoMemory};
+ghost use Rattle.hs_forms.specs.declared.error.ParseError.TheVariants.{NoMemory};
 
 use crate::limit::MAX_DEPTH;
 use crate::patterns::read_pat;

@@ -1,0 +1,22 @@
+//! Readers of Haskell's kinds, types and patterns (Haskell 2010 Report, chapter 10), and what readers of other parts of the
+//! grammar are made of: each answers the tree at the front of the terminals, or where they begin none.
+#![tactic(auto)]
+
+mod chain;
+mod kinds;
+mod leaf;
+mod limit;
+mod read;
+mod tuple_name;
+mod types;
+
+pub use chain::{Chained, read_chain};
+pub use kinds::read_kind;
+pub use leaf::{
+    after, after_arrow, after_left_paren, after_right_bracket, after_right_paren, after_star,
+    begins_arrow, begins_atype, begins_comma, begins_tuple_name, count_commas,
+};
+pub use limit::{MAX_DEPTH, allows, lower};
+pub use read::Read;
+pub use tuple_name::read_tuple_name;
+pub use types::{read_atype, read_btype, read_type};
