@@ -1,5 +1,6 @@
 -- A chain: what is known of its tokens behind a head and some items.
-use Rattle.std.proofs.Common.{◌≡◌, ℕ, Bool, true, false, List, [], ◌∷◌, ◌++◌, length, refl, sym, ap, ◌∙◌, subst, append_assoc, true≢false}
+use Rattle.std.proofs.Common.{◌≡◌, ℕ, Bool, true, false, List, [], ◌∷◌, ◌++◌, length, refl, sym, ap, ◌∙◌, subst}
+use Rattle.std.proofs.Common.{append_assoc, true≢false}
 use Rattle.std.specs.Prelude.{flat_map}
 use Rattle.std.proofs.lemmas.Grind.{flat_map-append}
 use Rattle.std.proofs.lemmas.List.{append-nil}
@@ -23,27 +24,31 @@ regroup_more items front xs x s =
 
 module _ {K T H X : Type 0} (form : Form K T) (head : Form K H) (items : X → List K) (item : ℕ → X → Type 0)
     (inner : X → K → Bool) (starter : K → Bool) (make : H → List X → T) (c : IsChain form head items item inner starter make) where
-  pub quiet_inner : (h : H) (xs : List X) (x : X) (more : List X) (after : List K) → form.Good (make h (xs ++ x ∷ more)) →
+  pub quiet_inner : (h : H) (xs : List X) (x : X) (more : List X) (after : List K) →
+      form.Good (make h (xs ++ x ∷ more)) →
       begins (form.extends (make h (xs ++ x ∷ more))) after ≡ false → begins (inner x) (flat_map items more ++ after) ≡ false
   quiet_inner h xs x [] after g q = begins_within (form.extends (make h (xs ++ x ∷ []))) (inner x) after (c.ends_item h xs x) q
   quiet_inner h xs x (y ∷ more) after g q =
       rw (append_assoc (items y) (flat_map items more) after)
       (begins_apart starter (inner x) (items y) _ (λ t e. c.apart_item h xs x y more t g e) (c.starts y))
 
-  pub quiet_head : (h : H) (xs : List X) (after : List K) → form.Good (make h xs) → begins (form.extends (make h xs)) after ≡ false →
+  pub quiet_head : (h : H) (xs : List X) (after : List K) → form.Good (make h xs) →
+      begins (form.extends (make h xs)) after ≡ false →
       begins (head.extends h) (flat_map items xs ++ after) ≡ false
   quiet_head h [] after g q = begins_within (form.extends (make h [])) (head.extends h) after (c.ends_head h) q
   quiet_head h (x ∷ xs) after g q =
       rw (append_assoc (items x) (flat_map items xs) after)
       (begins_apart starter (head.extends h) (items x) _ (λ t e. c.apart_head h x xs t g e) (c.starts x))
 
-  not_started : (h : H) (xs : List X) (after : List K) → begins (form.extends (make h xs)) after ≡ false → begins starter after ≡ true → ⊥
+  not_started : (h : H) (xs : List X) (after : List K) → begins (form.extends (make h xs)) after ≡ false →
+      begins starter after ≡ true → ⊥
   not_started h xs after q e = true≢false (sym e ∙ begins_within (form.extends (make h xs)) starter after (c.ends h xs) q)
 
   started : (x : X) (more : List X) (after : List K) → begins starter (flat_map items (x ∷ more) ++ after) ≡ true
   started x more after = rw (append_assoc (items x) (flat_map items more) after) (begins_append starter (items x) _ (c.starts x))
 
-  pub chain_first : (h : H) (rest : List K) → Reads head h rest → form.Good (make h []) → SoFar form head items make h [] rest
+  pub chain_first : (h : H) (rest : List K) → Reads head h rest → form.Good (make h []) →
+      SoFar form head items make h [] rest
   chain_first h rest r good = record {
     good = good;
     only = λ s h' xs' after same g quiet e.
@@ -65,7 +70,8 @@ module _ {K T H X : Type 0} (form : Form K T) (head : Form K H) (items : X → L
       (e ∙ append_assoc (items y) (flat_map items more) after) in
       (eh, more, ex ∙ ap (λ v. xs ++ v ∷ more) found.0 ∙ sym (append_assoc xs (x ∷ []) more), sym found.1)
 
-  pub chain_step : (h : H) (xs : List X) (x : X) (here rest : List K) → SoFar form head items make h xs here → here ≡ items x ++ rest →
+  pub chain_step : (h : H) (xs : List X) (x : X) (here rest : List K) → SoFar form head items make h xs here →
+      here ≡ items x ++ rest →
       Reads (item_form items item inner (length xs)) x rest → form.Good (make h (xs ++ x ∷ [])) →
       SoFar form head items make h (xs ++ x ∷ []) rest
   chain_step h xs x here rest so at r good = record {
@@ -84,7 +90,8 @@ module _ {K T H X : Type 0} (form : Form K T) (head : Form K H) (items : X → L
   stop_more xs here s h h' xs' after same ends eh (y ∷ more) ex e =
       absurd (true≢false (sym (subst (λ l. begins starter l ≡ true) (sym e) (started y more after)) ∙ begins_same starter here s same ∙ ends))
 
-  pub chain_stop : (h : H) (xs : List X) (here : List K) → SoFar form head items make h xs here → begins starter here ≡ false →
+  pub chain_stop : (h : H) (xs : List X) (here : List K) → SoFar form head items make h xs here →
+      begins starter here ≡ false →
       Reads form (make h xs) here
   chain_stop h xs here so ends = record {
     good = so.good;
@@ -185,7 +192,8 @@ module _ {K T H X : Type 0} (form : Form K T) (head : Form K H) (items : X → L
   over_more xs s h' xs' after starts ends g quiet (y ∷ more) ex e = ends h' y more (subst (λ l. form.Good (make h' l)) ex g) refl
 
   -- No more items are allowed, and one begins here
-  pub chain_over : (h : H) (xs : List X) (here : List K) → SoFar form head items make h xs here → begins starter here ≡ true →
+  pub chain_over : (h : H) (xs : List X) (here : List K) → SoFar form head items make h xs here →
+      begins starter here ≡ true →
       ((x : X) (more : List X) → form.Good (make h (xs ++ x ∷ more)) → ⊥) → Refuses form (head.tokens h ++ flat_map items xs) here
   chain_over h xs here so starts ends = record {
     begun = ([], make h xs, so.good, append-nil (head.tokens h ++ flat_map items xs) ∙ sym (c.spelled h xs));

@@ -1,5 +1,6 @@
 -- One token several times and a closing one.
-use Rattle.std.proofs.Common.{◌≡◌, ℕ, zero, suc, ◌+◌, ◌<◌, ◌≤◌, Bool, true, false, List, [], ◌∷◌, ◌++◌, length, refl, sym, ap, ◌∙◌, append_assoc, true≢false, arith, length-append}
+use Rattle.std.proofs.Common.{◌≡◌, ℕ, zero, suc, ◌+◌, ◌<◌, ◌≤◌, Bool, true, false, List, [], ◌∷◌, ◌++◌, length, refl}
+use Rattle.std.proofs.Common.{sym, ap, ◌∙◌, append_assoc, true≢false, arith, length-append}
 use Rattle.std.specs.Prelude.{replicate}
 use Rattle.hs_forms.specs.Reading.{begins, Reads, Refuses}
 use Rattle.hs_forms.specs.Answers.{Accepts, Rejects}

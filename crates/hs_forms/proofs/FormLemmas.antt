@@ -1,5 +1,6 @@
 -- The front of a list of tokens, and forms behind a token, before one, and in a row.
-use Rattle.std.proofs.Common.{◌≡◌, Bool, true, false, List, [], ◌∷◌, ◌++◌, refl, sym, ap, ◌∙◌, subst, append_assoc, true≢false}
+use Rattle.std.proofs.Common.{◌≡◌, Bool, true, false, List, [], ◌∷◌, ◌++◌, refl, sym, ap, ◌∙◌, subst, append_assoc}
+use Rattle.std.proofs.Common.{true≢false}
 use Rattle.std.proofs.lemmas.List.{append-nil}
 use Rattle.hs_forms.specs.Reading.{Form, SameStart, begins, Reads, Refuses}
 use Rattle.hs_forms.specs.Forms.{behind, closed, closed_if, Completes, pair, CompletesPair}
@@ -16,12 +17,14 @@ pub begins_append : {K : Type 0} → (f : K → Bool) (xs ys : List K) → begin
 begins_append f [] ys h = absurd (true≢false (sym h))
 begins_append f (x ∷ xs) ys h = h
 
-pub begins_apart : {K : Type 0} → (f e : K → Bool) (xs ys : List K) → ((t : K) → f t ≡ true → e t ≡ false) → begins f xs ≡ true →
+pub begins_apart : {K : Type 0} → (f e : K → Bool) (xs ys : List K) → ((t : K) → f t ≡ true → e t ≡ false) →
+    begins f xs ≡ true →
     begins e (xs ++ ys) ≡ false
 begins_apart f e [] ys apart h = absurd (true≢false (sym h))
 begins_apart f e (x ∷ xs) ys apart h = apart x h
 
-pub begins_within : {K : Type 0} → (f e : K → Bool) (xs : List K) → ((t : K) → f t ≡ false → e t ≡ false) → begins f xs ≡ false →
+pub begins_within : {K : Type 0} → (f e : K → Bool) (xs : List K) → ((t : K) → f t ≡ false → e t ≡ false) →
+    begins f xs ≡ false →
     begins e xs ≡ false
 begins_within f e [] within h = refl
 begins_within f e (x ∷ xs) within h = within x h
@@ -34,7 +37,8 @@ begins_same f (t ∷ ts) s h = ap (begins f) h.1
 uncons : {K : Type 0} (t : K) (xs ys : List K) → t ∷ xs ≡ t ∷ ys → xs ≡ ys
 uncons t xs ys e = cc
 
-pub reads_behind : {K T : Type 0} (t : K) (form : Form K T) (x : T) (rest : List K) → Reads form x rest → Reads (behind t form) x rest
+pub reads_behind : {K T : Type 0} (t : K) (form : Form K T) (x : T) (rest : List K) → Reads form x rest →
+    Reads (behind t form) x rest
 reads_behind t form x rest r = record {
   good = r.good;
   only = λ s other after same good quiet e. r.only s other after same good quiet (uncons t _ _ e);
@@ -66,7 +70,8 @@ module _ {K T : Type 0} (form : Form K T) (t : K) (ends : (x : T) → form.exten
   }
 
 -- a tree was read, and its closing token does not follow
-pub closing_missed : {K T : Type 0} (form : Form K T) (t : K) (ends : (x : T) → form.extends x t ≡ false) (is_t : K → Bool) → is_t t ≡ true →
+pub closing_missed : {K T : Type 0} (form : Form K T) (t : K) (ends : (x : T) → form.extends x t ≡ false) (is_t : K →
+    Bool) → is_t t ≡ true →
     (x : T) (rest : List K) → Reads form x rest → begins is_t rest ≡ false → Refuses (closed form t) (form.tokens x) rest
 closing_missed form t ends is_t is x rest r missed = record {
   begun = (t ∷ [], x, r.good, refl);
@@ -86,7 +91,8 @@ starts_alike (k ∷ ks) s after t same e =
 -- a closing token that extends none of the trees that fit
 module _ {K T : Type 0} (form : Form K T) (Fits : T → Type 0) (t : K)
     (ends : (x : T) → Fits x → form.extends x t ≡ false) where
-  pub reads_closed_if : (x : T) (rest : List K) → Reads form x (t ∷ rest) → Fits x → Reads (closed_if form Fits t) x rest
+  pub reads_closed_if : (x : T) (rest : List K) → Reads form x (t ∷ rest) → Fits x →
+      Reads (closed_if form Fits t) x rest
   reads_closed_if x rest r fits = record {
     good = (r.good, fits);
     only = λ s other after same good quiet e.
@@ -174,7 +180,8 @@ module _ {K T U : Type 0} (one : Form K T) (two : Form K U) (Fits : T → U → 
             (e ∙ append_assoc (one.tokens other.0) (two.tokens other.1) after);
       }
 
-  pub pair_second : (x : T) (here before bad : List K) → Reads one x here → here ≡ before ++ bad → Refuses two before bad →
+  pub pair_second : (x : T) (here before bad : List K) → Reads one x here → here ≡ before ++ bad →
+      Refuses two before bad →
       ((u : U) → two.Good u → Fits x u) → Refuses (pair one two Fits) (one.tokens x ++ before) bad
   pair_second x here before bad r at q fits = record {
     begun = (

@@ -12,7 +12,8 @@ pub within_lowered : (limit : Option ℕ) (d used : ℕ) → Within limit (d + u
 within_lowered None d used h = tt
 within_lowered (Some most) d used h = omega arith
 
-pub within_raised : (limit : Option ℕ) (d used : ℕ) → Within limit used → Within (lowered limit used) d → Within limit (d + used)
+pub within_raised : (limit : Option ℕ) (d used : ℕ) → Within limit used → Within (lowered limit used) d →
+    Within limit (d + used)
 within_raised None d used u h = tt
 within_raised (Some most) d used u h = omega arith
 
@@ -21,7 +22,8 @@ within_zero None = tt
 within_zero (Some most) = omega arith
 
 -- two depths within a limit
-pub within_max : (limit : Option ℕ) (a b c : ℕ) → Within limit (a + c) → Within limit (b + c) → Within limit (max a b + c)
+pub within_max : (limit : Option ℕ) (a b c : ℕ) → Within limit (a + c) → Within limit (b + c) →
+    Within limit (max a b + c)
 within_max None a b c h k = tt
 within_max (Some most) a b c h k = omega arith
 
@@ -33,11 +35,13 @@ pub and_right : (a b : Bool) → a && b ≡ true → b ≡ true
 and_right true b e = e
 and_right false b e = absurd (true≢false (sym e))
 
-pub all_here : {X : Type 0} (f : X → Bool) (xs : List X) (x : X) (more : List X) → all_of (map f (xs ++ x ∷ more)) ≡ true → f x ≡ true
+pub all_here : {X : Type 0} (f : X → Bool) (xs : List X) (x : X) (more : List X) →
+    all_of (map f (xs ++ x ∷ more)) ≡ true → f x ≡ true
 all_here f [] x more e = and_left (f x) _ e
 all_here f (y ∷ xs) x more e = all_here f xs x more (and_right (f y) _ e)
 
-pub all_more : {X : Type 0} (f : X → Bool) (xs : List X) (x : X) → all_of (map f xs) ≡ true → f x ≡ true → all_of (map f (xs ++ x ∷ [])) ≡ true
+pub all_more : {X : Type 0} (f : X → Bool) (xs : List X) (x : X) → all_of (map f xs) ≡ true → f x ≡ true →
+    all_of (map f (xs ++ x ∷ [])) ≡ true
 all_more f [] x e g = and_from (f x) true g refl
 all_more f (y ∷ xs) x e g = and_from (f y) _ (and_left (f y) _ e) (all_more f xs x (and_right (f y) _ e) g)
 
@@ -49,7 +53,8 @@ pub deep_front : {X : Type 0} (f : X → ℕ) (xs ys : List X) → deepest (map 
 deep_front f [] ys = omega arith
 deep_front f (y ∷ xs) ys = let h = deep_front f xs ys in omega arith
 
-pub deep_more : {X : Type 0} (f : X → ℕ) (xs : List X) (x : X) → deepest (map f (xs ++ x ∷ [])) ≡ max (deepest (map f xs)) (f x)
+pub deep_more : {X : Type 0} (f : X → ℕ) (xs : List X) (x : X) →
+    deepest (map f (xs ++ x ∷ [])) ≡ max (deepest (map f xs)) (f x)
 deep_more f [] x = omega arith
 deep_more f (y ∷ xs) x = let h = deep_more f xs x in omega arith
 

@@ -1,5 +1,6 @@
 -- The loop of a chain's reader: what is known before each item, and what each way out answers.
-use Rattle.std.proofs.Common.{◌≡◌, ℕ, ◌+◌, ◌<◌, Bool, true, false, List, [], ◌∷◌, ◌++◌, length, refl, sym, ap, ◌∙◌, append_assoc, arith, length-append}
+use Rattle.std.proofs.Common.{◌≡◌, ℕ, ◌+◌, ◌<◌, Bool, true, false, List, [], ◌∷◌, ◌++◌, length, refl, sym, ap, ◌∙◌}
+use Rattle.std.proofs.Common.{append_assoc, arith, length-append}
 use Rattle.std.specs.Prelude.{flat_map, map, max}
 use Rattle.std.proofs.lemmas.List.{append-nil}
 use Rattle.std.proofs.lemmas.Grind.{flat_map-append}
@@ -10,11 +11,13 @@ use Rattle.hs_forms.specs.Forms.{item_form}
 use Rattle.hs_forms.specs.Productions.{Chain}
 use Rattle.hs_forms.specs.declared.fault.Fault.{Fault}
 use Rattle.hs_forms.specs.declared.fault.Fault.TheVariants.{At, NoMemory}
-use Rattle.hs_forms.proofs.ChainLemmas.{SoFar, chain_first, chain_step, chain_stop, chain_shut, chain_over, head_refused, item_refused}
+use Rattle.hs_forms.proofs.ChainLemmas.{SoFar, chain_first, chain_step, chain_stop, chain_shut, chain_over}
+use Rattle.hs_forms.proofs.ChainLemmas.{head_refused, item_refused}
 use Rattle.hs_forms.proofs.LimitLemmas.{deep_more}
 
 -- a refusal in a part
-pub fails_after : {K T U : Type 0} (form : Form K T) (part : Form K U) (front ts here : List K) (e : Fault) → ts ≡ front ++ here →
+pub fails_after : {K T U : Type 0} (form : Form K T) (part : Form K U) (front ts here : List K) (e : Fault) →
+    ts ≡ front ++ here →
     ((before bad : List K) → here ≡ before ++ bad → Refuses part before bad → Refuses form (front ++ before) bad) →
     Fails part here e → Fails form ts e
 fails_after form part front ts here (At left) split f r = record {
@@ -43,7 +46,8 @@ pub record State {K T H X : Type 0} (c : Chain K T H X) (ts : List K) (h : H) (x
   pub room : deep + length xs + length here < length ts
 
 module _ {K T H X : Type 0} (c : Chain K T H X) where
-  pub state_first : (ts : List K) (h : H) (rest : List K) (d : ℕ) → Accepts c.head c.head_depth ts h rest d → State c ts h [] rest d
+  pub state_first : (ts : List K) (h : H) (rest : List K) (d : ℕ) → Accepts c.head c.head_depth ts h rest d →
+      State c ts h [] rest d
   state_first ts h rest d a = record {
     so = chain_first c.form c.head c.items c.item c.inner c.starter c.make c.laws h rest a.reads (c.first h a.reads.good);
     split = split_first c.items ts (c.head.tokens h) rest a.spelled;
@@ -51,7 +55,8 @@ module _ {K T H X : Type 0} (c : Chain K T H X) where
     room = omega (arith, a.room);
   }
 
-  pub state_step : (ts : List K) (h : H) (xs : List X) (here : List K) (d : ℕ) (x : X) (rest : List K) (e : ℕ) → State c ts h xs here d → c.Room h xs →
+  pub state_step : (ts : List K) (h : H) (xs : List X) (here : List K) (d : ℕ) (x : X) (rest : List K) (e : ℕ) →
+      State c ts h xs here d → c.Room h xs →
       Accepts (item_form c.items c.item c.inner (length xs)) c.item_depth here x rest e → State c ts h (xs ++ x ∷ []) rest (max d e)
   state_step ts h xs here d x rest e s free a =
       let long = length-append xs (x ∷ []) in

@@ -1,5 +1,6 @@
 -- Two forms that compete for the same tokens, a form before certain tokens, and one form as another.
-use Rattle.std.proofs.Common.{◌≡◌, ℕ, zero, suc, ◌≤◌, Bool, true, false, List, [], ◌∷◌, ◌++◌, length, refl, sym, ap, ◌∙◌, subst, append_assoc, true≢false, arith, inl, inr, ◌⊎◌, length-append}
+use Rattle.std.proofs.Common.{◌≡◌, ℕ, zero, suc, ◌≤◌, Bool, true, false, List, [], ◌∷◌, ◌++◌, length, refl, sym, ap}
+use Rattle.std.proofs.Common.{◌∙◌, subst, append_assoc, true≢false, arith, inl, inr, ◌⊎◌, length-append}
 use Rattle.std.specs.Prelude.{not, min}
 use Rattle.std.proofs.lemmas.List.{append-nil, append_cancel_left}
 use Rattle.hs_forms.specs.Reading.{Form, SameStart, begins, Reads, Refuses}
@@ -13,7 +14,8 @@ not_false true e = refl
 not_false false e = sym e
 
 module _ {K T : Type 0} (form : Form K T) (follow : K → Bool) (ends : (x : T) (t : K) → follow t ≡ true → form.extends x t ≡ false) where
-  quiet_wide : (x : T) (after : List K) → begins (λ t. not (follow t)) after ≡ false → begins (form.extends x) after ≡ false
+  quiet_wide : (x : T) (after : List K) → begins (λ t. not (follow t)) after ≡ false →
+      begins (form.extends x) after ≡ false
   quiet_wide x after q = begins_within (λ t. not (follow t)) (form.extends x) after (λ t e. ends x t (not_false (follow t) e)) q
 
   pub reads_narrow : (x : T) (rest : List K) → Reads form x rest → Reads (narrow form follow) x rest
@@ -63,7 +65,8 @@ module _ {K A B : Type 0} (a : Form K A) (b : Form K B) (f : A → B) (o : Onto 
   }
 
 -- of two splits of one list the longer front goes on from the shorter one
-pub splits : {K : Type 0} (a b c d : List K) → a ++ b ≡ c ++ d → length c ≤ length a → (more : List K) × (a ≡ c ++ more) × (d ≡ more ++ b)
+pub splits : {K : Type 0} (a b c d : List K) → a ++ b ≡ c ++ d → length c ≤ length a →
+    (more : List K) × (a ≡ c ++ more) × (d ≡ more ++ b)
 splits a b [] d e le = (a, refl, sym e)
 splits [] b (x ∷ c) d e le = absurd (omega arith)
 splits (y ∷ a) b (x ∷ c) d e le =
@@ -74,7 +77,8 @@ splits (y ∷ a) b (x ∷ c) d e le =
 
 module _ {K T U : Type 0} (one : Form K T) (two : Form K U) where
   -- a form that failed no later than a place has no tree that goes on there
-  dead : (front here before bad s : List K) (u : U) (after : List K) → front ++ here ≡ before ++ bad → length before ≤ length front →
+  dead : (front here before bad s : List K) (u : U) (after : List K) → front ++ here ≡ before ++ bad →
+      length before ≤ length front →
       Refuses two before bad → SameStart here s → two.Good u → begins (two.extends u) after ≡ false → front ++ s ≡ two.tokens u ++ after → ⊥
   dead front here before bad s u after same_list le r same good quiet e =
       let cut = splits front here before bad same_list le in
@@ -97,7 +101,8 @@ module _ {K T U : Type 0} (one : Form K T) (two : Form K U) where
       choose s (inr u) after same good quiet e = absurd (dead (one.tokens x) rest before bad s u after same_list le q same good quiet e)
 
   -- both failed, the first no earlier
-  pub refuses_first : (before bad before' bad' : List K) → Refuses one before bad → Refuses two before' bad' → before ++ bad ≡ before' ++ bad' →
+  pub refuses_first : (before bad before' bad' : List K) → Refuses one before bad → Refuses two before' bad' →
+      before ++ bad ≡ before' ++ bad' →
       length before' ≤ length before → Refuses (either one two) before bad
   refuses_first before bad before' bad' r q same_list le = record {
     begun = (r.begun.0, inl r.begun.1, r.begun.2, r.begun.3);
@@ -195,7 +200,8 @@ total (suc a) (suc b) = next (total a b)
     next (inr h) = inr (omega arith)
 
 -- Two refusals from one place: the choice is refused at the later.
-pub rejects_later : {K T U : Type 0} (one : Form K T) (two : Form K U) (ts : List K) (l m : ℕ) → Rejects one ts l → Rejects two ts m →
+pub rejects_later : {K T U : Type 0} (one : Form K T) (two : Form K U) (ts : List K) (l m : ℕ) → Rejects one ts l →
+    Rejects two ts m →
     Rejects (either one two) ts (min l m)
 rejects_later {K} {T} {U} one two ts l m r q = decide (total l m)
   where
@@ -229,7 +235,8 @@ rejects_by one two ts left r f = record {
 }
 
 -- A refusal stands behind tokens that begin a tree.
-pub refuses_later : {K T : Type 0} (form : Form K T) (before bad front : List K) (k : K) (tail more : List K) (x : T) → Refuses form before bad →
+pub refuses_later : {K T : Type 0} (form : Form K T) (before bad front : List K) (k : K) (tail more : List K) (x : T) →
+    Refuses form before bad →
     before ++ bad ≡ front ++ (k ∷ tail) → form.Good x → form.tokens x ≡ front ++ (k ∷ more) → (rest : List K) × (before ≡ front ++ (k ∷ rest))
 refuses_later {K} form before bad front k tail more x r split good spelled = decide (total (length before) (length front))
   where
@@ -237,7 +244,8 @@ refuses_later {K} form before bad front k tail more x r split good spelled = dec
     same_behind [] bad e = subst (λ l. SameStart l (k ∷ more)) (sym e) (more, refl)
     same_behind (y ∷ d) bad e = subst (λ l. SameStart l (y ∷ (d ++ (k ∷ more)))) (sym e) (d ++ (k ∷ more), refl)
 
-    long : (m : List K) → front ++ (k ∷ tail) ≡ before ++ bad → before ≡ front ++ m → (m ≡ [] → ⊥) → (rest : List K) × (before ≡ front ++ (k ∷ rest))
+    long : (m : List K) → front ++ (k ∷ tail) ≡ before ++ bad → before ≡ front ++ m → (m ≡ [] → ⊥) →
+        (rest : List K) × (before ≡ front ++ (k ∷ rest))
     long [] e is some = absurd (some refl)
     long (y ∷ m) e is some =
         let both : k ∷ tail ≡ y ∷ (m ++ bad) =
@@ -245,7 +253,8 @@ refuses_later {K} form before bad front k tail more x r split good spelled = dec
         let first : y ≡ k = cc in
         (m, is ∙ ap (λ z. front ++ (z ∷ m)) first)
 
-    decide : (length before ≤ length front) ⊎ (length front ≤ length before) → (rest : List K) × (before ≡ front ++ (k ∷ rest))
+    decide : (length before ≤ length front) ⊎ (length front ≤ length before) →
+        (rest : List K) × (before ≡ front ++ (k ∷ rest))
     decide (inl le) =
         let cut = splits front (k ∷ tail) before bad (sym split) le in
         absurd (r.never (cut.0 ++ (k ∷ more)) x [] (same_behind cut.0 bad cut.2) good refl

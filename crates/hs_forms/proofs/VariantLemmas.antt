@@ -1,5 +1,6 @@
 -- Productions behind a fixed front, or known by their first token.
-use Rattle.std.proofs.Common.{◌≡◌, ◌<◌, Bool, true, false, List, [], ◌∷◌, ◌++◌, refl, sym, ap, ◌∙◌, subst, append_assoc, true≢false}
+use Rattle.std.proofs.Common.{◌≡◌, ◌<◌, Bool, true, false, List, [], ◌∷◌, ◌++◌, refl, sym, ap, ◌∙◌, subst, append_assoc}
+use Rattle.std.proofs.Common.{true≢false}
 use Rattle.std.proofs.lemmas.List.{append_cancel_left}
 use Rattle.hs_forms.specs.Reading.{Form, SameStart, begins, Reads, Refuses}
 use Rattle.hs_forms.specs.Forms.{leaf}
@@ -7,12 +8,14 @@ use Rattle.hs_forms.specs.Productions.{Leads, Variant}
 use Rattle.hs_forms.proofs.FormLemmas.{same_start_append, begins_within, begins_same, begins_append}
 
 module _ {K P T : Type 0} (form : Form K T) (front : List K) (part : Form K P) (make : P → T) (l : Leads form front part make) where
-  behind_lead : (other : T) (p : P) (s after : List K) → other ≡ make p → front ++ s ≡ form.tokens other ++ after → s ≡ part.tokens p ++ after
+  behind_lead : (other : T) (p : P) (s after : List K) → other ≡ make p → front ++ s ≡ form.tokens other ++ after →
+      s ≡ part.tokens p ++ after
   behind_lead other p s after is e =
       append_cancel_left front s (part.tokens p ++ after)
       (e ∙ ap (λ o. form.tokens o ++ after) is ∙ ap (λ ts. ts ++ after) (l.tokens p) ∙ append_assoc front (part.tokens p) after)
 
-  quiet_part : (other : T) (p : P) (after : List K) → other ≡ make p → begins (form.extends other) after ≡ false → begins (part.extends p) after ≡ false
+  quiet_part : (other : T) (p : P) (after : List K) → other ≡ make p → begins (form.extends other) after ≡ false →
+      begins (part.extends p) after ≡ false
   quiet_part other p after is q =
       begins_within (form.extends (make p)) (part.extends p) after (l.extends p) (subst (λ o. begins (form.extends o) after ≡ false) is q)
 
@@ -56,7 +59,8 @@ module _ {K P T : Type 0} (form : Form K T) (part : Form K P) (make : P → T) (
         (q.1 ∙ ap make found.0, found.1);
   }
 
-  pub variant_refuses : (before bad : List K) → begins starter (before ++ bad) ≡ true → Refuses part before bad → Refuses form before bad
+  pub variant_refuses : (before bad : List K) → begins starter (before ++ bad) ≡ true → Refuses part before bad →
+      Refuses form before bad
   variant_refuses before bad starts r = record {
     begun = (r.begun.0, make r.begun.1, v.good r.begun.1 r.begun.2, r.begun.3 ∙ sym (v.tokens r.begun.1));
     never = λ s other after same good quiet e.
@@ -79,7 +83,8 @@ none_refused form starter least good starts bad ends = record {
 heads : {K : Type 0} (x y : K) (xs ys : List K) → x ∷ xs ≡ y ∷ ys → (x ≡ y) × (xs ≡ ys)
 heads x y xs ys e = (cc, cc)
 
-pub reads_leaf : {K N : Type 0} (token : N → K) → ((n m : N) → token n ≡ token m → m ≡ n) → (n : N) (rest : List K) → Reads (leaf token) n rest
+pub reads_leaf : {K N : Type 0} (token : N → K) → ((n m : N) → token n ≡ token m → m ≡ n) → (n : N) (rest : List K) →
+    Reads (leaf token) n rest
 reads_leaf token inj n rest = record {
   good = tt;
   only = λ s other after same good quiet e. let both = heads (token n) (token other) s after e in (inj n other both.0, sym both.1);

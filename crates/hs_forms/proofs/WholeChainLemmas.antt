@@ -1,5 +1,6 @@
 -- A chain is read if its head and its items are.
-use Rattle.std.proofs.Common.{◌≡◌, ℕ, ◌<◌, ◌≤◌, Bool, true, false, List, [], ◌∷◌, ◌++◌, length, refl, sym, ap, subst, append_assoc, true≢false, arith, length-append}
+use Rattle.std.proofs.Common.{◌≡◌, ℕ, ◌<◌, ◌≤◌, Bool, true, false, List, [], ◌∷◌, ◌++◌, length, refl, sym, ap, subst}
+use Rattle.std.proofs.Common.{append_assoc, true≢false, arith, length-append}
 use Rattle.std.specs.Prelude.{flat_map, map}
 use Rattle.std.proofs.lemmas.List.{append-nil}
 use Rattle.std.proofs.lemmas.Grind.{flat_map-append}
@@ -13,7 +14,8 @@ use Rattle.std.proofs.lemmas.Bool.{and_from}
 use Rattle.hs_forms.proofs.LimitLemmas.{and_left, and_right}
 
 module _ {K T H X : Type 0} (c : Chain K T H X) (less : (h : H) (ys zs : List X) → c.form.Good (c.make h (ys ++ zs)) → c.form.Good (c.make h ys)) where
-  chain_on : (h : H) (done xs : List X) (rest : List K) → SoFar c.form c.head c.items c.make h done (flat_map c.items xs ++ rest) →
+  chain_on : (h : H) (done xs : List X) (rest : List K) →
+      SoFar c.form c.head c.items c.make h done (flat_map c.items xs ++ rest) →
       c.form.Good (c.make h (done ++ xs)) → begins (c.form.extends (c.make h (done ++ xs))) rest ≡ false →
       ((ys : List X) (x : X) (zs : List X) → xs ≡ ys ++ x ∷ zs → (n : ℕ) → c.item n x → (here : List K) → begins (c.inner x) here ≡ false →
       Reads (item_form c.items c.item c.inner n) x here) →
@@ -33,7 +35,8 @@ module _ {K T H X : Type 0} (c : Chain K T H X) (less : (h : H) (ys zs : List X)
       subst (λ l. Reads c.form (c.make h l) rest) (append_assoc done (x ∷ []) xs)
       (chain_on h (done ++ x ∷ []) xs rest so' good' q' (λ ys y zs e. each (x ∷ ys) y zs (ap (λ l. x ∷ l) e)))
 
-  pub chain_all : (h : H) (xs : List X) (rest : List K) → c.form.Good (c.make h xs) → begins (c.form.extends (c.make h xs)) rest ≡ false →
+  pub chain_all : (h : H) (xs : List X) (rest : List K) → c.form.Good (c.make h xs) →
+      begins (c.form.extends (c.make h xs)) rest ≡ false →
       ((here : List K) → begins (c.head.extends h) here ≡ false → Reads c.head h here) →
       ((ys : List X) (x : X) (zs : List X) → xs ≡ ys ++ x ∷ zs → (n : ℕ) → c.item n x → (here : List K) → begins (c.inner x) here ≡ false →
       Reads (item_form c.items c.item c.inner n) x here) →
@@ -44,7 +47,8 @@ module _ {K T H X : Type 0} (c : Chain K T H X) (less : (h : H) (ys zs : List X)
       (first (flat_map c.items xs ++ rest) (quiet_head c.form c.head c.items c.item c.inner c.starter c.make c.laws h xs rest good q)) (less h [] xs good))
       good q each
 
-pub all_less : {X : Type 0} (f : X → Bool) (ys zs : List X) → all_of (map f (ys ++ zs)) ≡ true → all_of (map f ys) ≡ true
+pub all_less : {X : Type 0} (f : X → Bool) (ys zs : List X) → all_of (map f (ys ++ zs)) ≡ true →
+    all_of (map f ys) ≡ true
 all_less f [] zs e = refl
 all_less f (y ∷ ys) zs e = and_from (f y) _ (and_left (f y) _ e) (all_less f ys zs (and_right (f y) _ e))
 

@@ -1,5 +1,6 @@
 -- From a reading at the front to the answer over all the tokens.
-use Rattle.std.proofs.Common.{◌≡◌, ℕ, zero, suc, ◌+◌, ◌<◌, Bool, true, false, List, [], ◌∷◌, ◌++◌, length, take, drop, refl, sym, ap, ◌∙◌, subst, append_assoc, true≢false, arith, length-append}
+use Rattle.std.proofs.Common.{◌≡◌, ℕ, zero, suc, ◌+◌, ◌<◌, Bool, true, false, List, [], ◌∷◌, ◌++◌, length, take, drop}
+use Rattle.std.proofs.Common.{refl, sym, ap, ◌∙◌, subst, append_assoc, true≢false, arith, length-append}
 use Rattle.std.proofs.lemmas.List.{append-nil, take-append-drop, take-append-le}
 use Rattle.std.proofs.Math.Seq.{take-append-add, take-append_seam}
 use Rattle.hs_forms.specs.Reading.{Form, SameStart}
@@ -36,7 +37,8 @@ module _ {K T : Type 0} (form : Form K T) where
           (sym (append_assoc before (b ∷ []) more)
           ∙ ap (λ l. l ++ more) (sym (ap (take (length before + 1)) split ∙ take-append-add before (b ∷ bad) 1)) ∙ spelled.0)
 
-  pub place_of_rejects : (ts : List K) (left : ℕ) → Rejects form ts left → (i : ℕ) × (i + left ≡ length ts) × IsPlace form ts i
+  pub place_of_rejects : (ts : List K) (left : ℕ) → Rejects form ts left →
+      (i : ℕ) × (i + left ≡ length ts) × IsPlace form ts i
   place_of_rejects ts left r = (
     length r.before,
     omega (arith, r.left_is, ap length r.split, length-append r.before r.bad),
@@ -48,7 +50,8 @@ module _ {K T : Type 0} (form : Form K T) where
   whole_of_fails ts (f.At left) r = place_of_rejects ts left r
   whole_of_fails ts f.NoMemory r = tt
 
-  pub whole_of_all : (depth : T → ℕ) (ts : List K) (tree : T) (rest : List K) (d : ℕ) → Accepts form depth ts tree rest d →
+  pub whole_of_all : (depth : T → ℕ) (ts : List K) (tree : T) (rest : List K) (d : ℕ) →
+      Accepts form depth ts tree rest d →
       length rest ≡ 0 → Spells form tree ts
   whole_of_all depth ts tree [] d acc e = (acc.spelled ∙ append-nil (form.tokens tree), acc.reads.good)
   whole_of_all depth ts tree (x ∷ rest) d acc e = absurd (omega arith)
@@ -57,7 +60,8 @@ module _ {K T : Type 0} (form : Form K T) where
   no_rest tree other [] s some same e = absurd (omega arith)
   no_rest tree other (x ∷ rest) s some same e = let long = ap length (e ∙ same.1) in absurd (omega arith)
 
-  pub whole_of_rest : (depth : T → ℕ) (ts : List K) (tree : T) (rest : List K) (d : ℕ) → Accepts form depth ts tree rest d →
+  pub whole_of_rest : (depth : T → ℕ) (ts : List K) (tree : T) (rest : List K) (d : ℕ) →
+      Accepts form depth ts tree rest d →
       0 < length rest → (i : ℕ) × (i + length rest ≡ length ts) × IsPlace form ts i
   whole_of_rest depth ts tree rest d acc some = (
     length (form.tokens tree),
@@ -87,7 +91,8 @@ module _ {K T : Type 0} (form : Form K T) where
   begun_err ts zero w = (λ _. begun_at_end ts w.0 (omega (arith, w.1)) w.2, λ _. refl)
   begun_err ts (suc left) w = (λ h. absurd (let e : nat_eq (suc left) 0 ≡ false = grind (arith, nat_tests) in true≢false (sym h ∙ e)), λ b. absurd (not_begun ts w.0 (omega (arith, w.1)) w.2 b))
 
-  pub begun_err_at : (ts : List K) (e : Fault) (left : ℕ) → e ≡ f.At left → IsWhole form ts (Err e) → IsTrue (nat_eq left 0) ↔ Begins form ts
+  pub begun_err_at : (ts : List K) (e : Fault) (left : ℕ) → e ≡ f.At left → IsWhole form ts (Err e) →
+      IsTrue (nat_eq left 0) ↔ Begins form ts
   begun_err_at ts e left is w = begun_err ts left (subst (λ e. IsWhole form ts (Err e)) is w)
 
 pub some_length : {K : Type 0} (b : Bool) (xs : List K) → b ≡ nat_eq (length xs) 0 → b ≡ false → 0 < length xs

@@ -6,6 +6,9 @@ mod chain;
 mod kinds;
 mod leaf;
 mod limit;
+mod pattern_leaf;
+mod patterns;
+mod qconop;
 mod read;
 mod tuple_name;
 mod types;
@@ -16,7 +19,13 @@ pub use leaf::{
     after, after_arrow, after_left_paren, after_right_bracket, after_right_paren, after_star,
     begins_arrow, begins_atype, begins_comma, begins_tuple_name, count_commas,
 };
-pub use limit::{MAX_DEPTH, allows, lower};
+pub use limit::{MAX_DEPTH, PartsLimit, allows, lower};
+pub use pattern_leaf::{
+    after_at, after_backquote, after_con, after_integer, after_minus, begins_apat, begins_qconop,
+    starts_pat,
+};
+pub use patterns::{read_apat, read_apats, read_lpat, read_pat};
+pub use qconop::read_qconop;
 pub use read::Read;
 pub use tuple_name::read_tuple_name;
 pub use types::{read_atype, read_btype, read_type};

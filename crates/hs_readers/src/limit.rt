@@ -24,3 +24,12 @@ pub fn lower(limit: Option<usize>, used: usize) -> Option<usize>
         Some(most) => Some(most.saturating_sub(used)),
     }
 }
+
+/// What bounds a list between commas.
+#[derive(Clone, Copy)]
+pub struct PartsLimit {
+    /// How many parts may stand behind the first.
+    pub most: Option<usize>,
+    /// How deep a part may be.
+    pub depth: Option<usize>,
+}

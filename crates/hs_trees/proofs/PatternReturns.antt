@@ -5,6 +5,7 @@ use Rattle.hs_forms.specs.Reading.{Form, begins, Reads, Refuses}
 use Rattle.hs_forms.specs.Limits.{Within, lowered, deepest}
 use Rattle.hs_forms.specs.Answers.{Accepts, Rejects, Fails}
 use Rattle.hs_tokens.specs.Terminals.{is_at, is_comma, is_con, is_backquote, is_minus, starts_qconop}
+use Rattle.hs_trees.specs.Types.{starts_tuple_name}
 use Rattle.hs_trees.specs.Patterns.{Ts, qconop_tokens, spelling_lpat, spelling_op, is_lpat, depth_of_apat, depth_of_lpat, depth_of_op, depth_of_pat, starts_apat, starts_lpat, starts_pat, opens_name, opens_pat, depth_of_apats, depth_of_pats, apat_form, apats_form, lpat_form, pat_form, pats_form, qconop_form}
 use Rattle.hs_tokens.specs.declared.terminal.Terminal.{Terminal}
 use Rattle.hs_tokens.specs.declared.terminal.Terminal.TheVariants as t
@@ -209,14 +210,14 @@ no_apat t.LeftBracket a b c d e f g h i = absurd (h refl)
 no_apat t.Tilde a b c d e f g h i = absurd (i refl)
 no_apat _ a b c d e f g h i = refl
 
-pub no_opening : (x : Terminal) → (x ≡ t.RightParen → ⊥) → (x ≡ t.Comma → ⊥) → ((n : List ℕ) → x ≡ t.ConSym n → ⊥) → (x ≡ t.Colon → ⊥) →
+pub no_opening : (x : Terminal) → starts_tuple_name x ≡ false → ((n : List ℕ) → x ≡ t.ConSym n → ⊥) → (x ≡ t.Colon → ⊥) →
     ((n : List ℕ) → x ≡ t.VarSym n → ⊥) → opens_name x ≡ false
-no_opening t.RightParen a b c d e = absurd (a refl)
-no_opening t.Comma a b c d e = absurd (b refl)
-no_opening (t.ConSym n) a b c d e = absurd (c n refl)
-no_opening t.Colon a b c d e = absurd (d refl)
-no_opening (t.VarSym n) a b c d e = absurd (e n refl)
-no_opening _ a b c d e = refl
+no_opening t.RightParen a c d e = absurd (true≢false a)
+no_opening t.Comma a c d e = absurd (true≢false a)
+no_opening (t.ConSym n) a c d e = absurd (c n refl)
+no_opening t.Colon a c d e = absurd (d refl)
+no_opening (t.VarSym n) a c d e = absurd (e n refl)
+no_opening _ a c d e = refl
 
 pub no_qconop : (x : Terminal) → ((n : List ℕ) → x ≡ t.ConSym n → ⊥) → (x ≡ t.Colon → ⊥) → (x ≡ t.Backquote → ⊥) → starts_qconop x ≡ false
 no_qconop (t.ConSym n) a b c = absurd (a n refl)
