@@ -208,4 +208,3 @@ module _ {K T H X : Type 0} (form : Form K T) (head : Form K H) (items : X → L
         (λ h'' x more good eq. ends x more (subst (λ a. form.Good (make a (xs ++ x ∷ more))) (eq ∙ found.0) good))
         g' quiet' found.1 found.2 found.3;
   }
-

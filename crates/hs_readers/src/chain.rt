@@ -15,11 +15,13 @@ use std::alloc::Global;
 /// A tree that is a head and items, such as `btype {"->" btype}`: what of its reader is its own.
 pub trait Chained: Sized {
     type Head: Drop;
+
     type Item: Drop;
     /// What bounds such a tree: its depth, or how many items it may have.
     type Limit: Copy;
 
     ghost chain: { Self.Limit → Chain Terminal Self Self.Head Self.Item };
+
     ghost depth: { Self → ℕ };
 
     /// Whether an item begins here.
@@ -27,7 +29,12 @@ pub trait Chained: Sized {
         ensures { (limit : Self.Limit) → result ≡ begins (chain limit).starter tokens.now };
 
     /// Whether one more item may stand behind these, the deepest part being so deep.
-    fn has_room(limit: Self::Limit, deep: usize, head: &Self::Head, items: &Items<Self::Item>) -> bool
+    fn has_room(
+        limit: Self::Limit,
+        deep: usize,
+        head: &Self::Head,
+        items: &Items<Self::Item>,
+    ) -> bool
         requires { deep + length items.now + 1 < 2 ^ 64 }
         ensures { deep ≡ max ((chain limit).head_depth head.now) (deepest (map (chain limit).item_depth items.now)) → (IsTrue result ↔ (chain limit).Room head.now items.now) };
 
@@ -72,5 +79,9 @@ pub fn read_chain<'a, C: Chained, F: Fn(&'a [Terminal], usize) -> Result<Read<'a
         deep = deep.max(read.depth);
     }
     let depth = C::total(deep, more.len());
-    Ok(Read { tree: C::make(first, more), rest, depth })
+    Ok(Read {
+        tree: C::make(first, more),
+        rest,
+        depth,
+    })
 }

@@ -19,17 +19,25 @@ use std::alloc::Global;
 
 impl Chained for KindTree {
     type Head = AKindTree;
+
     type Item = AKindTree;
+
     type Limit = Option<usize>;
 
     ghost chain = { kind_chain };
+
     ghost depth = { depth_of_kind };
 
     fn begins_item(tokens: &[Terminal]) -> bool {
         begins_arrow(tokens)
     }
 
-    fn has_room(limit: Option<usize>, deep: usize, _head: &AKindTree, items: &Items<AKindTree>) -> bool
+    fn has_room(
+        limit: Option<usize>,
+        deep: usize,
+        _head: &AKindTree,
+        items: &Items<AKindTree>,
+    ) -> bool
         requires { deep + length items.now + 1 < 2 ^ 64 }
         ensures { deep ≡ max ((kind_chain limit).head_depth _head.now) (deepest (map (kind_chain limit).item_depth items.now)) → (IsTrue result ↔ (kind_chain limit).Room _head.now items.now) }
     {
@@ -39,7 +47,10 @@ impl Chained for KindTree {
     fn make(head: AKindTree, items: Items<AKindTree>) -> KindTree
         ensures { (limit : Option ℕ) → result ≡ (kind_chain limit).make head items }
     {
-        KindTree { first: head, rest: items }
+        KindTree {
+            first: head,
+            rest: items,
+        }
     }
 
     fn total(deep: usize, count: usize) -> usize {
@@ -72,15 +83,21 @@ pub fn read_kind<'a>(
     ensures { Answers (kind_sort limit) tokens.now result }
 {
     let head = read_akind(alloc, tokens, limit)?;
-    read_chain(alloc, tokens, limit, head, |here, count|
-        requires few { count + 1 < 2 ^ 64 }
-        requires less { count + length here.now < length tokens.now }
-        requires starts { begins is_arrow here.now ≡ true }
-        ensures { Answers (item_sort (kind_chain limit) count) here.now result }
-    {
-        let _ = &tokens;
-        read_arrow(alloc, here, limit, count)
-    })
+    read_chain(
+        alloc,
+        tokens,
+        limit,
+        head,
+        |here, count|
+            requires few { count + 1 < 2 ^ 64 }
+            requires less { count + length here.now < length tokens.now }
+            requires starts { begins is_arrow here.now ≡ true }
+            ensures { Answers (item_sort (kind_chain limit) count) here.now result }
+        {
+            let _ = &tokens;
+            read_arrow(alloc, here, limit, count)
+        },
+    )
 }
 
 /// `"*" | "(" kind ")"`
@@ -93,7 +110,11 @@ fn read_akind<'a>(
     ensures { Answers (akind_sort limit) tokens.now result }
 {
     if let Some(rest) = after_star(tokens) {
-        return Ok(Read { tree: AKindTree::Star, rest, depth: 0 });
+        return Ok(Read {
+            tree: AKindTree::Star,
+            rest,
+            depth: 0,
+        });
     }
     let Some(next) = after_left_paren(tokens) else {
         return Err(Fault::At(tokens.len()));
@@ -105,7 +126,11 @@ fn read_akind<'a>(
     match after_right_paren(inner.rest) {
         Some(rest) => {
             let tree = Boxed::new(alloc, inner.tree)?;
-            Ok(Read { tree: AKindTree::Parens(tree), rest, depth: inner.depth + 1 })
+            Ok(Read {
+                tree: AKindTree::Parens(tree),
+                rest,
+                depth: inner.depth + 1,
+            })
         }
         None => Err(Fault::At(inner.rest.len())),
     }

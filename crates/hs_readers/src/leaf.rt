@@ -83,7 +83,10 @@ pub fn count_commas(tokens: &[Terminal]) -> usize
     ensures value { result ≡ prefix_len is_comma tokens.now }
     ensures within { result ≤ length tokens.now }
 {
-    tokens.iter().take_while(|terminal| matches!(terminal, Terminal::Comma)).count()
+    tokens
+        .iter()
+        .take_while(|terminal| matches!(terminal, Terminal::Comma))
+        .count()
 }
 
 /// Whether a `->` stands here.
@@ -104,8 +107,5 @@ pub fn begins_comma(tokens: &[Terminal]) -> bool
 pub fn begins_tuple_name(tokens: &[Terminal]) -> bool
     ensures { result ≡ begins starts_tuple_name tokens.now }
 {
-    matches!(
-        tokens.first(),
-        Some(Terminal::RightParen | Terminal::Comma)
-    )
+    matches!(tokens.first(), Some(Terminal::RightParen | Terminal::Comma))
 }

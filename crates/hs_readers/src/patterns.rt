@@ -27,10 +27,13 @@ use std::alloc::Global;
 
 impl Chained for PatTree {
     type Head = LPatTree;
+
     type Item = OpLPat;
+
     type Limit = Option<usize>;
 
     ghost chain = { pat_chain };
+
     ghost depth = { depth_of_pat };
 
     fn begins_item(tokens: &[Terminal]) -> bool {
@@ -47,7 +50,10 @@ impl Chained for PatTree {
     fn make(head: LPatTree, items: Items<OpLPat>) -> PatTree
         ensures { (limit : Option ℕ) → result ≡ (pat_chain limit).make head items }
     {
-        PatTree { first: head, rest: items }
+        PatTree {
+            first: head,
+            rest: items,
+        }
     }
 
     fn total(deep: usize, count: usize) -> usize {
@@ -57,17 +63,25 @@ impl Chained for PatTree {
 
 impl Chained for (APatTree, Items<APatTree>) {
     type Head = APatTree;
+
     type Item = APatTree;
+
     type Limit = Option<usize>;
 
     ghost chain = { apats_chain };
+
     ghost depth = { depth_of_apats };
 
     fn begins_item(tokens: &[Terminal]) -> bool {
         begins_apat(tokens)
     }
 
-    fn has_room(_limit: Option<usize>, _deep: usize, _head: &APatTree, _items: &Items<APatTree>) -> bool {
+    fn has_room(
+        _limit: Option<usize>,
+        _deep: usize,
+        _head: &APatTree,
+        _items: &Items<APatTree>,
+    ) -> bool {
         true
     }
 
@@ -84,10 +98,13 @@ impl Chained for (APatTree, Items<APatTree>) {
 
 impl Chained for (PatTree, Items<PatTree>) {
     type Head = PatTree;
+
     type Item = PatTree;
+
     type Limit = PartsLimit;
 
     ghost chain = { λ limit. pats_chain limit.most limit.depth };
+
     ghost depth = { depth_of_pats };
 
     fn begins_item(tokens: &[Terminal]) -> bool {
@@ -119,14 +136,20 @@ pub fn read_pat<'a>(
     ensures { Answers (pat_sort limit) tokens.now result }
 {
     let head = read_lpat(alloc, tokens, limit)?;
-    read_chain(alloc, tokens, limit, head, |here, count|
-        requires few { count + 1 < 2 ^ 64 }
-        requires less { count + length here.now < length tokens.now }
-        ensures { Answers (item_sort (pat_chain limit) count) here.now result }
-    {
-        let _ = &tokens;
-        read_operand(alloc, here, limit, count)
-    })
+    read_chain(
+        alloc,
+        tokens,
+        limit,
+        head,
+        |here, count|
+            requires few { count + 1 < 2 ^ 64 }
+            requires less { count + length here.now < length tokens.now }
+            ensures { Answers (item_sort (pat_chain limit) count) here.now result }
+        {
+            let _ = &tokens;
+            read_operand(alloc, here, limit, count)
+        },
+    )
 }
 
 /// `qconop lpat`, behind so many others.
@@ -142,8 +165,15 @@ fn read_operand<'a>(
 {
     let op = read_qconop(alloc, tokens)?;
     let pat = read_lpat(alloc, op.rest, lower(limit, count + 1))?;
-    let tree = OpLPat { op: op.tree, pat: pat.tree };
-    Ok(Read { tree, rest: pat.rest, depth: pat.depth })
+    let tree = OpLPat {
+        op: op.tree,
+        pat: pat.tree,
+    };
+    Ok(Read {
+        tree,
+        rest: pat.rest,
+        depth: pat.depth,
+    })
 }
 
 /// `"-" integer | gcon apat {apat} | apat`
@@ -159,23 +189,43 @@ pub fn read_lpat<'a>(
         return match after_integer(next) {
             Some((text, rest)) => {
                 let tree = LPatTree::Negative(text.copied(alloc)?);
-                Ok(Read { tree, rest, depth: 0 })
+                Ok(Read {
+                    tree,
+                    rest,
+                    depth: 0,
+                })
             }
             None => Err(Fault::At(next.len())),
         };
     }
-    let Read { tree: first, rest, depth } = read_apat(alloc, tokens, limit)?;
+    let Read {
+        tree: first,
+        rest,
+        depth,
+    } = read_apat(alloc, tokens, limit)?;
     match first {
         APatTree::Con(con) => {
             if !begins_apat(rest) {
-                return Ok(Read { tree: LPatTree::APat(APatTree::Con(con)), rest, depth });
+                return Ok(Read {
+                    tree: LPatTree::APat(APatTree::Con(con)),
+                    rest,
+                    depth,
+                });
             }
             let args = read_apats(alloc, rest, limit)?;
             let (head, more) = args.tree;
             let tree = LPatTree::Apply(con, head, more);
-            Ok(Read { tree, rest: args.rest, depth: args.depth })
+            Ok(Read {
+                tree,
+                rest: args.rest,
+                depth: args.depth,
+            })
         }
-        other => Ok(Read { tree: LPatTree::APat(other), rest, depth }),
+        other => Ok(Read {
+            tree: LPatTree::APat(other),
+            rest,
+            depth,
+        }),
     }
 }
 
@@ -189,14 +239,20 @@ pub fn read_apats<'a>(
     ensures { Answers (apats_sort limit) tokens.now result }
 {
     let head = read_apat(alloc, tokens, limit)?;
-    read_chain(alloc, tokens, limit, head, |here, count|
-        requires less { count + length here.now < length tokens.now }
-        ensures { Answers (item_sort (apats_chain limit) count) here.now result }
-    {
-        let _ = &tokens;
-        let _ = &count;
-        read_apat(alloc, here, limit)
-    })
+    read_chain(
+        alloc,
+        tokens,
+        limit,
+        head,
+        |here, count|
+            requires less { count + length here.now < length tokens.now }
+            ensures { Answers (item_sort (apats_chain limit) count) here.now result }
+        {
+            let _ = &tokens;
+            let _ = &count;
+            read_apat(alloc, here, limit)
+        },
+    )
 }
 
 /// An `apat`: a pattern that needs no brackets as an argument.
@@ -218,20 +274,40 @@ pub fn read_apat<'a>(
         }
         Terminal::Con(name) => {
             let con = GConTree::Con(Name::from_bytes(alloc, name.as_bytes())?);
-            Ok(Read { tree: APatTree::Con(con), rest, depth: 0 })
+            Ok(Read {
+                tree: APatTree::Con(con),
+                rest,
+                depth: 0,
+            })
         }
-        Terminal::Underscore => Ok(Read { tree: APatTree::Wild, rest, depth: 0 }),
+        Terminal::Underscore => Ok(Read {
+            tree: APatTree::Wild,
+            rest,
+            depth: 0,
+        }),
         Terminal::Integer(text) => {
             let literal = LiteralTree::Integer(text.copied(alloc)?);
-            Ok(Read { tree: APatTree::Literal(literal), rest, depth: 0 })
+            Ok(Read {
+                tree: APatTree::Literal(literal),
+                rest,
+                depth: 0,
+            })
         }
         Terminal::Char(text) => {
             let literal = LiteralTree::Char(text.copied(alloc)?);
-            Ok(Read { tree: APatTree::Literal(literal), rest, depth: 0 })
+            Ok(Read {
+                tree: APatTree::Literal(literal),
+                rest,
+                depth: 0,
+            })
         }
         Terminal::Text(text) => {
             let literal = LiteralTree::Text(text.copied(alloc)?);
-            Ok(Read { tree: APatTree::Literal(literal), rest, depth: 0 })
+            Ok(Read {
+                tree: APatTree::Literal(literal),
+                rest,
+                depth: 0,
+            })
         }
         Terminal::LeftParen => read_paren(alloc, rest, limit),
         Terminal::LeftBracket => read_bracket(alloc, rest, limit),
@@ -251,21 +327,33 @@ fn read_as<'a>(
     ensures { Answers (apat_sort limit) (var_tokens name ++ tokens.now) result }
 {
     let Some(next) = after_at(tokens) else {
-        return Ok(Read { tree: APatTree::Var(name), rest: tokens, depth: 0 });
+        return Ok(Read {
+            tree: APatTree::Var(name),
+            rest: tokens,
+            depth: 0,
+        });
     };
     if !allows(limit, 1) {
         return Err(Fault::At(tokens.len()));
     }
     let part = read_apat(alloc, next, lower(limit, 1))?;
     let tree = Boxed::new(alloc, part.tree)?;
-    Ok(Read { tree: APatTree::As(name, tree), rest: part.rest, depth: part.depth + 1 })
+    Ok(Read {
+        tree: APatTree::As(name, tree),
+        rest: part.rest,
+        depth: part.depth + 1,
+    })
 }
 
 /// The constructor that the name of the unit or of a tuple is.
 fn named_con(commas: usize) -> GConTree
     ensures { result ≡ named_con commas }
 {
-    if commas == 0 { GConTree::Unit } else { GConTree::Tuple(commas) }
+    if commas == 0 {
+        GConTree::Unit
+    } else {
+        GConTree::Tuple(commas)
+    }
 }
 
 /// An `apat` after its `(`.
@@ -280,7 +368,11 @@ fn read_paren<'a>(
     if begins_tuple_name(tokens) {
         let name = read_tuple_name(tokens)?;
         let tree = APatTree::Con(named_con(name.tree));
-        return Ok(Read { tree, rest: name.rest, depth: name.depth });
+        return Ok(Read {
+            tree,
+            rest: name.rest,
+            depth: name.depth,
+        });
     }
     let Some((first, next)) = tokens.split_first() else {
         return Err(Fault::At(0));
@@ -289,12 +381,20 @@ fn read_paren<'a>(
         Terminal::ConSym(name) => match after_right_paren(next) {
             Some(rest) => {
                 let con = GConTree::Sym(Name::from_bytes(alloc, name.as_bytes())?);
-                Ok(Read { tree: APatTree::Con(con), rest, depth: 0 })
+                Ok(Read {
+                    tree: APatTree::Con(con),
+                    rest,
+                    depth: 0,
+                })
             }
             None => Err(Fault::At(next.len())),
         },
         Terminal::Colon => match after_right_paren(next) {
-            Some(rest) => Ok(Read { tree: APatTree::Con(GConTree::Colon), rest, depth: 0 }),
+            Some(rest) => Ok(Read {
+                tree: APatTree::Con(GConTree::Colon),
+                rest,
+                depth: 0,
+            }),
             None => Err(Fault::At(next.len())),
         },
         Terminal::VarSym(name) => {
@@ -333,7 +433,11 @@ fn read_inside<'a>(
         Some(rest) => {
             let (first, more) = inner.tree;
             let first = Boxed::new(alloc, first)?;
-            Ok(Read { tree: APatTree::Parts(first, more), rest, depth: inner.depth + 1 })
+            Ok(Read {
+                tree: APatTree::Parts(first, more),
+                rest,
+                depth: inner.depth + 1,
+            })
         }
         None => Err(Fault::At(inner.rest.len())),
     }
@@ -349,7 +453,11 @@ fn read_bracket<'a>(
     ensures { Answers (apat_sort limit) (LeftBracket ∷ tokens.now) result }
 {
     if let Some(rest) = after_right_bracket(tokens) {
-        return Ok(Read { tree: APatTree::Con(GConTree::List), rest, depth: 0 });
+        return Ok(Read {
+            tree: APatTree::Con(GConTree::List),
+            rest,
+            depth: 0,
+        });
     }
     if !allows(limit, 1) {
         return Err(Fault::At(tokens.len()));
@@ -359,7 +467,11 @@ fn read_bracket<'a>(
         Some(rest) => {
             let (first, more) = inner.tree;
             let first = Boxed::new(alloc, first)?;
-            Ok(Read { tree: APatTree::List(first, more), rest, depth: inner.depth + 1 })
+            Ok(Read {
+                tree: APatTree::List(first, more),
+                rest,
+                depth: inner.depth + 1,
+            })
         }
         None => Err(Fault::At(inner.rest.len())),
     }
@@ -379,7 +491,11 @@ fn read_lazy<'a>(
     }
     let part = read_apat(alloc, tokens, lower(limit, 1))?;
     let tree = Boxed::new(alloc, part.tree)?;
-    Ok(Read { tree: APatTree::Lazy(tree), rest: part.rest, depth: part.depth + 1 })
+    Ok(Read {
+        tree: APatTree::Lazy(tree),
+        rest: part.rest,
+        depth: part.depth + 1,
+    })
 }
 
 /// `pat {"," pat}`, of at most so many parts behind the first.
@@ -394,15 +510,21 @@ fn read_pats<'a>(
 {
     let head = read_pat(alloc, tokens, limit)?;
     let parts = PartsLimit { most, depth: limit };
-    read_chain(alloc, tokens, parts, head, |here, count|
-        requires less { count + length here.now < length tokens.now }
-        requires starts { begins is_comma here.now ≡ true }
-        ensures { Answers (item_sort (pats_chain most limit) count) here.now result }
-    {
-        let _ = &tokens;
-        let _ = &most;
-        read_part(alloc, here, limit, count)
-    })
+    read_chain(
+        alloc,
+        tokens,
+        parts,
+        head,
+        |here, count|
+            requires less { count + length here.now < length tokens.now }
+            requires starts { begins is_comma here.now ≡ true }
+            ensures { Answers (item_sort (pats_chain most limit) count) here.now result }
+        {
+            let _ = &tokens;
+            let _ = &most;
+            read_part(alloc, here, limit, count)
+        },
+    )
 }
 
 /// `"," pat`, behind so many others.

@@ -22,9 +22,17 @@ pub fn read_qconop(alloc: Global, tokens: &[Terminal]) -> Result<Read<'_, QConOp
     match first {
         Terminal::ConSym(name) => {
             let tree = QConOpTree::Sym(Name::from_bytes(alloc, name.as_bytes())?);
-            Ok(Read { tree, rest, depth: 0 })
+            Ok(Read {
+                tree,
+                rest,
+                depth: 0,
+            })
         }
-        Terminal::Colon => Ok(Read { tree: QConOpTree::Colon, rest, depth: 0 }),
+        Terminal::Colon => Ok(Read {
+            tree: QConOpTree::Colon,
+            rest,
+            depth: 0,
+        }),
         Terminal::Backquote => read_quoted(alloc, rest),
         _ => Err(Fault::At(tokens.len())),
     }
@@ -40,7 +48,11 @@ fn read_quoted(alloc: Global, tokens: &[Terminal]) -> Result<Read<'_, QConOpTree
     match after_backquote(rest) {
         Some(after) => {
             let tree = QConOpTree::Quoted(Name::from_bytes(alloc, name.as_bytes())?);
-            Ok(Read { tree, rest: after, depth: 0 })
+            Ok(Read {
+                tree,
+                rest: after,
+                depth: 0,
+            })
         }
         None => Err(Fault::At(rest.len())),
     }

@@ -20,7 +20,11 @@ pub fn read_tuple_name(tokens: &[Terminal]) -> Result<Read<'_, usize>, Fault>
         return Err(Fault::At(tokens.len() - 14));
     }
     match after_right_paren(after(tokens, commas)) {
-        Some(rest) => Ok(Read { tree: commas, rest, depth: 0 }),
+        Some(rest) => Ok(Read {
+            tree: commas,
+            rest,
+            depth: 0,
+        }),
         None => Err(Fault::At(tokens.len() - commas)),
     }
 }

@@ -25,17 +25,25 @@ use std::alloc::Global;
 
 impl Chained for TypeTree {
     type Head = BTypeTree;
+
     type Item = BTypeTree;
+
     type Limit = Option<usize>;
 
     ghost chain = { type_chain };
+
     ghost depth = { depth_of_type };
 
     fn begins_item(tokens: &[Terminal]) -> bool {
         begins_arrow(tokens)
     }
 
-    fn has_room(limit: Option<usize>, deep: usize, _head: &BTypeTree, items: &Items<BTypeTree>) -> bool
+    fn has_room(
+        limit: Option<usize>,
+        deep: usize,
+        _head: &BTypeTree,
+        items: &Items<BTypeTree>,
+    ) -> bool
         requires { deep + length items.now + 1 < 2 ^ 64 }
         ensures { deep ≡ max ((type_chain limit).head_depth _head.now) (deepest (map (type_chain limit).item_depth items.now)) → (IsTrue result ↔ (type_chain limit).Room _head.now items.now) }
     {
@@ -45,7 +53,10 @@ impl Chained for TypeTree {
     fn make(head: BTypeTree, items: Items<BTypeTree>) -> TypeTree
         ensures { (limit : Option ℕ) → result ≡ (type_chain limit).make head items }
     {
-        TypeTree { first: head, rest: items }
+        TypeTree {
+            first: head,
+            rest: items,
+        }
     }
 
     fn total(deep: usize, count: usize) -> usize {
@@ -55,24 +66,35 @@ impl Chained for TypeTree {
 
 impl Chained for BTypeTree {
     type Head = ATypeTree;
+
     type Item = ATypeTree;
+
     type Limit = Option<usize>;
 
     ghost chain = { btype_chain };
+
     ghost depth = { depth_of_btype };
 
     fn begins_item(tokens: &[Terminal]) -> bool {
         begins_atype(tokens)
     }
 
-    fn has_room(_limit: Option<usize>, _deep: usize, _head: &ATypeTree, _items: &Items<ATypeTree>) -> bool {
+    fn has_room(
+        _limit: Option<usize>,
+        _deep: usize,
+        _head: &ATypeTree,
+        _items: &Items<ATypeTree>,
+    ) -> bool {
         true
     }
 
     fn make(head: ATypeTree, items: Items<ATypeTree>) -> BTypeTree
         ensures { (limit : Option ℕ) → result ≡ (btype_chain limit).make head items }
     {
-        BTypeTree { first: head, rest: items }
+        BTypeTree {
+            first: head,
+            rest: items,
+        }
     }
 
     fn total(deep: usize, _count: usize) -> usize {
@@ -82,17 +104,25 @@ impl Chained for BTypeTree {
 
 impl Chained for (TypeTree, Items<TypeTree>) {
     type Head = TypeTree;
+
     type Item = TypeTree;
+
     type Limit = Option<usize>;
 
     ghost chain = { parts_chain };
+
     ghost depth = { depth_of_parts };
 
     fn begins_item(tokens: &[Terminal]) -> bool {
         begins_comma(tokens)
     }
 
-    fn has_room(_limit: Option<usize>, _deep: usize, _head: &TypeTree, items: &Items<TypeTree>) -> bool {
+    fn has_room(
+        _limit: Option<usize>,
+        _deep: usize,
+        _head: &TypeTree,
+        items: &Items<TypeTree>,
+    ) -> bool {
         items.len() < 14
     }
 
@@ -117,15 +147,21 @@ pub fn read_type<'a>(
     ensures { Answers (type_sort limit) tokens.now result }
 {
     let head = read_btype(alloc, tokens, limit)?;
-    read_chain(alloc, tokens, limit, head, |here, count|
-        requires few { count + 1 < 2 ^ 64 }
-        requires less { count + length here.now < length tokens.now }
-        requires starts { begins is_arrow here.now ≡ true }
-        ensures { Answers (item_sort (type_chain limit) count) here.now result }
-    {
-        let _ = &tokens;
-        read_arrow(alloc, here, limit, count)
-    })
+    read_chain(
+        alloc,
+        tokens,
+        limit,
+        head,
+        |here, count|
+            requires few { count + 1 < 2 ^ 64 }
+            requires less { count + length here.now < length tokens.now }
+            requires starts { begins is_arrow here.now ≡ true }
+            ensures { Answers (item_sort (type_chain limit) count) here.now result }
+        {
+            let _ = &tokens;
+            read_arrow(alloc, here, limit, count)
+        },
+    )
 }
 
 /// `"->" btype`, behind so many others.
@@ -153,14 +189,20 @@ pub fn read_btype<'a>(
     ensures { Answers (btype_sort limit) tokens.now result }
 {
     let head = read_atype(alloc, tokens, limit)?;
-    read_chain(alloc, tokens, limit, head, |here, count|
-        requires less { count + length here.now < length tokens.now }
-        ensures { Answers (item_sort (btype_chain limit) count) here.now result }
-    {
-        let _ = &tokens;
-        let _ = &count;
-        read_atype(alloc, here, limit)
-    })
+    read_chain(
+        alloc,
+        tokens,
+        limit,
+        head,
+        |here, count|
+            requires less { count + length here.now < length tokens.now }
+            ensures { Answers (item_sort (btype_chain limit) count) here.now result }
+        {
+            let _ = &tokens;
+            let _ = &count;
+            read_atype(alloc, here, limit)
+        },
+    )
 }
 
 /// An `atype`: a name, or what stands in brackets.
@@ -178,11 +220,19 @@ pub fn read_atype<'a>(
     match first {
         Terminal::Con(name) => {
             let tree = ATypeTree::Con(Name::from_bytes(alloc, name.as_bytes())?);
-            Ok(Read { tree, rest, depth: 0 })
+            Ok(Read {
+                tree,
+                rest,
+                depth: 0,
+            })
         }
         Terminal::Var(name) => {
             let tree = ATypeTree::Var(Name::from_bytes(alloc, name.as_bytes())?);
-            Ok(Read { tree, rest, depth: 0 })
+            Ok(Read {
+                tree,
+                rest,
+                depth: 0,
+            })
         }
         Terminal::LeftParen => read_paren(alloc, rest, limit),
         Terminal::LeftBracket => read_bracket(alloc, rest, limit),
@@ -194,7 +244,11 @@ pub fn read_atype<'a>(
 fn named_type(commas: usize) -> ATypeTree
     ensures { result ≡ named_type commas }
 {
-    if commas == 0 { ATypeTree::Unit } else { ATypeTree::TupleCon(commas) }
+    if commas == 0 {
+        ATypeTree::Unit
+    } else {
+        ATypeTree::TupleCon(commas)
+    }
 }
 
 /// An `atype` after its `(`.
@@ -208,11 +262,19 @@ fn read_paren<'a>(
 {
     if begins_tuple_name(tokens) {
         let name = read_tuple_name(tokens)?;
-        return Ok(Read { tree: named_type(name.tree), rest: name.rest, depth: name.depth });
+        return Ok(Read {
+            tree: named_type(name.tree),
+            rest: name.rest,
+            depth: name.depth,
+        });
     }
     if let Some(next) = after_arrow(tokens) {
         return match after_right_paren(next) {
-            Some(rest) => Ok(Read { tree: ATypeTree::ArrowCon, rest, depth: 0 }),
+            Some(rest) => Ok(Read {
+                tree: ATypeTree::ArrowCon,
+                rest,
+                depth: 0,
+            }),
             None => Err(Fault::At(next.len())),
         };
     }
@@ -224,7 +286,11 @@ fn read_paren<'a>(
         Some(rest) => {
             let (first, more) = inner.tree;
             let first = Boxed::new(alloc, first)?;
-            Ok(Read { tree: ATypeTree::Parts(first, more), rest, depth: inner.depth + 1 })
+            Ok(Read {
+                tree: ATypeTree::Parts(first, more),
+                rest,
+                depth: inner.depth + 1,
+            })
         }
         None => Err(Fault::At(inner.rest.len())),
     }
@@ -240,7 +306,11 @@ fn read_bracket<'a>(
     ensures { Answers (atype_sort limit) (LeftBracket ∷ tokens.now) result }
 {
     if let Some(rest) = after_right_bracket(tokens) {
-        return Ok(Read { tree: ATypeTree::ListCon, rest, depth: 0 });
+        return Ok(Read {
+            tree: ATypeTree::ListCon,
+            rest,
+            depth: 0,
+        });
     }
     if !allows(limit, 1) {
         return Err(Fault::At(tokens.len()));
@@ -249,7 +319,11 @@ fn read_bracket<'a>(
     match after_right_bracket(inner.rest) {
         Some(rest) => {
             let tree = Boxed::new(alloc, inner.tree)?;
-            Ok(Read { tree: ATypeTree::List(tree), rest, depth: inner.depth + 1 })
+            Ok(Read {
+                tree: ATypeTree::List(tree),
+                rest,
+                depth: inner.depth + 1,
+            })
         }
         None => Err(Fault::At(inner.rest.len())),
     }
@@ -265,14 +339,20 @@ fn read_parts<'a>(
     ensures { Answers (parts_sort limit) tokens.now result }
 {
     let head = read_type(alloc, tokens, limit)?;
-    read_chain(alloc, tokens, limit, head, |here, count|
-        requires less { count + length here.now < length tokens.now }
-        requires starts { begins is_comma here.now ≡ true }
-        ensures { Answers (item_sort (parts_chain limit) count) here.now result }
-    {
-        let _ = &tokens;
-        read_part(alloc, here, limit, count)
-    })
+    read_chain(
+        alloc,
+        tokens,
+        limit,
+        head,
+        |here, count|
+            requires less { count + length here.now < length tokens.now }
+            requires starts { begins is_comma here.now ≡ true }
+            ensures { Answers (item_sort (parts_chain limit) count) here.now result }
+        {
+            let _ = &tokens;
+            read_part(alloc, here, limit, count)
+        },
+    )
 }
 
 /// `"," type`, behind so many others.
