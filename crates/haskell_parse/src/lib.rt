@@ -2,18 +2,12 @@
 //! spell, or the least index at which they can spell none.
 #![tactic(auto)]
 
-mod kinds;
-mod leaf;
-mod limit;
 mod parse_kinds;
 mod parse_pats;
 mod parse_types;
-mod pattern_leaf;
-mod patterns;
-mod qconop;
-mod tuple_name;
-mod types;
+mod reading;
 
 pub use parse_kinds::{one_kind, parse_kind};
 pub use parse_pats::{no_bind, one_pat, parse_pat};
 pub use parse_types::{one_type, parse_type};
+pub use reading::{Readable, one_tree, parse};

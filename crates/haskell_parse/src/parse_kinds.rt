@@ -1,56 +1,34 @@
 //! The kind that tokens spell.
-ghost use Rattle.std.specs.Prelude.{◌≡◌, ◌↔◌, List, map, IsTrue, MatchResult, Some, None};
+ghost use Rattle.std.specs.Prelude.{◌≡◌, List, map, Some, None};
+ghost use Rattle.hs_forms.specs.Whole.{IsAnswer, Spells};
 ghost use Rattle.hs_tokens.specs.Terminals.{terminal_of};
-ghost use Rattle.hs_trees.specs.Kinds.{kind_form};
-ghost use Rattle.hs_trees.specs.Whole.{IsWhole, IsAnswer, Begins, Spells};
 ghost use Rattle.hs_tokens.specs.declared.terminal.Terminal.{Terminal};
+ghost use Rattle.hs_trees.specs.Kinds.{kind_form, kind_sort};
 ghost use Rattle.hs_trees.specs.declared.types.KindTree.{KindTree};
-ghost use Rattle.hs_trees.specs.declared.error.ParseError.TheVariants.{NoMemory};
+ghost use Rattle.hs_trees.proofs.KindUnique.{one_kind};
+ghost use Rattle.hs_readers.specs.Answers.{Answers};
 
-use crate::kinds::read_kind;
-use crate::limit::MAX_DEPTH;
-use hs_tokens::{Terminal, Tokens, terminals_of};
-use hs_trees::{Fault, KindTree, ParseError};
+use crate::reading::{Readable, parse};
+use hs_forms::{Fault, ParseError};
+use hs_readers::{Read, read_kind};
+use hs_tokens::{Terminal, Tokens};
+use hs_trees::KindTree;
 use std::alloc::Global;
 
-/// The kind that all the terminals spell, within the limit.
-fn whole_kind(alloc: Global, tokens: &[Terminal], limit: Option<usize>) -> Result<KindTree, Fault>
-    ensures { IsWhole (kind_form limit) tokens.now result }
-{
-    let (tree, rest, _) = read_kind(alloc, tokens, limit)?;
-    if rest.is_empty() {
-        Ok(tree)
-    } else {
-        Err(Fault::At(rest.len()))
-    }
-}
+impl Readable for KindTree {
+    ghost sort = { kind_sort };
 
-/// Whether the terminals begin a kind, of any depth.
-fn begins_kind(alloc: Global, tokens: &[Terminal]) -> Result<bool, ParseError>
-    ensures { MatchResult result (λ begun. IsTrue begun ↔ Begins (kind_form None) tokens.now) (λ e. e ≡ NoMemory) }
-{
-    match whole_kind(alloc, tokens, None) {
-        Ok(_) => Ok(true),
-        Err(Fault::At(left)) => Ok(left == 0),
-        Err(Fault::NoMemory) => Err(ParseError::NoMemory),
+    fn read<'a>(
+        alloc: Global,
+        tokens: &'a [Terminal],
+        limit: Option<usize>,
+    ) -> Result<Read<'a, KindTree>, Fault>
+        ensures { Answers (kind_sort limit) tokens.now result }
+    {
+        read_kind(alloc, tokens, limit)
     }
-}
 
-/// `parse_kind`, of terminals.
-fn kind_of_terminals(alloc: Global, tokens: &[Terminal]) -> Result<KindTree, ParseError>
-    ensures { IsAnswer (kind_form (Some 200)) (kind_form None) tokens.now result }
-{
-    let left = match whole_kind(alloc, tokens, Some(MAX_DEPTH)) {
-        Ok(tree) => return Ok(tree),
-        Err(Fault::NoMemory) => return Err(ParseError::NoMemory),
-        Err(Fault::At(left)) => left,
-    };
-    let at = tokens.len() - left;
-    let index = at as u64;
-    if left > 0 && begins_kind(alloc, &tokens[..at + 1])? {
-        return Err(ParseError::DepthLimit { index });
-    }
-    Err(ParseError::Syntax { index })
+    ghost unique = { one_kind };
 }
 
 /// The kind that all the tokens spell (Haskell 2010 Report, section 4.1.1).
@@ -60,8 +38,7 @@ fn kind_of_terminals(alloc: Global, tokens: &[Terminal]) -> Result<KindTree, Par
 pub fn parse_kind(alloc: Global, tokens: &Tokens) -> Result<KindTree, ParseError>
     ensures answer { IsAnswer (kind_form (Some 200)) (kind_form None) (map terminal_of tokens.now) result }
 {
-    let terminals = terminals_of(alloc, tokens)?;
-    kind_of_terminals(alloc, terminals.as_slice())
+    parse(alloc, tokens)
 }
 
 /// No two kinds have one spelling, whatever their depth.

@@ -1,59 +1,37 @@
 //! The pattern that tokens spell.
-ghost use Rattle.std.specs.Prelude.{◌≡◌, ◌↔◌, ◌∷◌, ◌++◌, List, map, not, true, false, IsTrue, MatchResult, Some, None};
-ghost use Rattle.hs_trees.specs.Hits.{hits, follows_guard};
-ghost use Rattle.hs_trees.specs.Reading.{begins};
+ghost use Rattle.std.specs.Prelude.{◌≡◌, ◌∷◌, ◌++◌, List, map, not, true, false, Some, None};
+ghost use Rattle.hs_forms.specs.Reading.{begins};
+ghost use Rattle.hs_forms.specs.Whole.{IsAnswer, Spells};
 ghost use Rattle.hs_tokens.specs.Terminals.{terminal_of};
-ghost use Rattle.hs_trees.specs.Patterns.{pat_form, spelling_pat};
-ghost use Rattle.hs_trees.specs.Whole.{IsWhole, IsAnswer, Begins, Spells};
 ghost use Rattle.hs_tokens.specs.declared.terminal.Terminal.{Terminal};
 ghost use Rattle.hs_tokens.specs.declared.terminal.Terminal.TheVariants.{LeftArrow};
+ghost use Rattle.hs_trees.specs.Hits.{hits, follows_guard};
+ghost use Rattle.hs_trees.specs.Patterns.{pat_form, pat_sort, spelling_pat};
 ghost use Rattle.hs_trees.specs.declared.patterns.PatTree.{PatTree};
-ghost use Rattle.hs_trees.specs.declared.error.ParseError.TheVariants.{NoMemory};
+ghost use Rattle.hs_trees.proofs.PatternUnique.{one_pattern};
+ghost use Rattle.hs_readers.specs.Answers.{Answers};
 
-use crate::limit::MAX_DEPTH;
-use crate::patterns::read_pat;
-use hs_tokens::{Terminal, Tokens, terminals_of};
-use hs_trees::{Fault, ParseError, PatTree};
+use crate::reading::{Readable, parse};
+use hs_forms::{Fault, ParseError};
+use hs_readers::{Read, read_pat};
+use hs_tokens::{Terminal, Tokens};
+use hs_trees::PatTree;
 use std::alloc::Global;
 
-/// The pattern that all the terminals spell, within the limit.
-fn whole_pat(alloc: Global, tokens: &[Terminal], limit: Option<usize>) -> Result<PatTree, Fault>
-    ensures { IsWhole (pat_form limit) tokens.now result }
-{
-    let (tree, rest, _) = read_pat(alloc, tokens, limit)?;
-    if rest.is_empty() {
-        Ok(tree)
-    } else {
-        Err(Fault::At(rest.len()))
-    }
-}
+impl Readable for PatTree {
+    ghost sort = { pat_sort };
 
-/// Whether the terminals begin a pattern, of any depth.
-fn begins_pat(alloc: Global, tokens: &[Terminal]) -> Result<bool, ParseError>
-    ensures { MatchResult result (λ begun. IsTrue begun ↔ Begins (pat_form None) tokens.now) (λ e. e ≡ NoMemory) }
-{
-    match whole_pat(alloc, tokens, None) {
-        Ok(_) => Ok(true),
-        Err(Fault::At(left)) => Ok(left == 0),
-        Err(Fault::NoMemory) => Err(ParseError::NoMemory),
+    fn read<'a>(
+        alloc: Global,
+        tokens: &'a [Terminal],
+        limit: Option<usize>,
+    ) -> Result<Read<'a, PatTree>, Fault>
+        ensures { Answers (pat_sort limit) tokens.now result }
+    {
+        read_pat(alloc, tokens, limit)
     }
-}
 
-/// `parse_pat`, of terminals.
-fn pat_of_terminals(alloc: Global, tokens: &[Terminal]) -> Result<PatTree, ParseError>
-    ensures { IsAnswer (pat_form (Some 200)) (pat_form None) tokens.now result }
-{
-    let left = match whole_pat(alloc, tokens, Some(MAX_DEPTH)) {
-        Ok(tree) => return Ok(tree),
-        Err(Fault::NoMemory) => return Err(ParseError::NoMemory),
-        Err(Fault::At(left)) => left,
-    };
-    let at = tokens.len() - left;
-    let index = at as u64;
-    if left > 0 && begins_pat(alloc, &tokens[..at + 1])? {
-        return Err(ParseError::DepthLimit { index });
-    }
-    Err(ParseError::Syntax { index })
+    ghost unique = { one_pattern };
 }
 
 /// The pattern that all the tokens spell (Haskell 2010 Report, section 3.17.1).
@@ -63,8 +41,7 @@ fn pat_of_terminals(alloc: Global, tokens: &[Terminal]) -> Result<PatTree, Parse
 pub fn parse_pat(alloc: Global, tokens: &Tokens) -> Result<PatTree, ParseError>
     ensures answer { IsAnswer (pat_form (Some 200)) (pat_form None) (map terminal_of tokens.now) result }
 {
-    let terminals = terminals_of(alloc, tokens)?;
-    pat_of_terminals(alloc, terminals.as_slice())
+    parse(alloc, tokens)
 }
 
 /// No two patterns have one spelling, whatever their depth.

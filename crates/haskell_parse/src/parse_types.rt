@@ -1,56 +1,34 @@
 //! The type that tokens spell.
-ghost use Rattle.std.specs.Prelude.{◌≡◌, ◌↔◌, List, map, IsTrue, MatchResult, Some, None};
+ghost use Rattle.std.specs.Prelude.{◌≡◌, List, map, Some, None};
+ghost use Rattle.hs_forms.specs.Whole.{IsAnswer, Spells};
 ghost use Rattle.hs_tokens.specs.Terminals.{terminal_of};
-ghost use Rattle.hs_trees.specs.Types.{type_form};
-ghost use Rattle.hs_trees.specs.Whole.{IsWhole, IsAnswer, Begins, Spells};
 ghost use Rattle.hs_tokens.specs.declared.terminal.Terminal.{Terminal};
+ghost use Rattle.hs_trees.specs.Types.{type_form, type_sort};
 ghost use Rattle.hs_trees.specs.declared.types.TypeTree.{TypeTree};
-ghost use Rattle.hs_trees.specs.declared.error.ParseError.TheVariants.{NoMemory};
+ghost use Rattle.hs_trees.proofs.TypeUnique.{one_type};
+ghost use Rattle.hs_readers.specs.Answers.{Answers};
 
-use crate::limit::MAX_DEPTH;
-use crate::types::read_type;
-use hs_tokens::{Terminal, Tokens, terminals_of};
-use hs_trees::{Fault, ParseError, TypeTree};
+use crate::reading::{Readable, parse};
+use hs_forms::{Fault, ParseError};
+use hs_readers::{Read, read_type};
+use hs_tokens::{Terminal, Tokens};
+use hs_trees::TypeTree;
 use std::alloc::Global;
 
-/// The type that all the terminals spell, within the limit.
-fn whole_type(alloc: Global, tokens: &[Terminal], limit: Option<usize>) -> Result<TypeTree, Fault>
-    ensures { IsWhole (type_form limit) tokens.now result }
-{
-    let (tree, rest, _) = read_type(alloc, tokens, limit)?;
-    if rest.is_empty() {
-        Ok(tree)
-    } else {
-        Err(Fault::At(rest.len()))
-    }
-}
+impl Readable for TypeTree {
+    ghost sort = { type_sort };
 
-/// Whether the terminals begin a type, of any depth.
-fn begins_type(alloc: Global, tokens: &[Terminal]) -> Result<bool, ParseError>
-    ensures { MatchResult result (λ begun. IsTrue begun ↔ Begins (type_form None) tokens.now) (λ e. e ≡ NoMemory) }
-{
-    match whole_type(alloc, tokens, None) {
-        Ok(_) => Ok(true),
-        Err(Fault::At(left)) => Ok(left == 0),
-        Err(Fault::NoMemory) => Err(ParseError::NoMemory),
+    fn read<'a>(
+        alloc: Global,
+        tokens: &'a [Terminal],
+        limit: Option<usize>,
+    ) -> Result<Read<'a, TypeTree>, Fault>
+        ensures { Answers (type_sort limit) tokens.now result }
+    {
+        read_type(alloc, tokens, limit)
     }
-}
 
-/// `parse_type`, of terminals.
-fn type_of_terminals(alloc: Global, tokens: &[Terminal]) -> Result<TypeTree, ParseError>
-    ensures { IsAnswer (type_form (Some 200)) (type_form None) tokens.now result }
-{
-    let left = match whole_type(alloc, tokens, Some(MAX_DEPTH)) {
-        Ok(tree) => return Ok(tree),
-        Err(Fault::NoMemory) => return Err(ParseError::NoMemory),
-        Err(Fault::At(left)) => left,
-    };
-    let at = tokens.len() - left;
-    let index = at as u64;
-    if left > 0 && begins_type(alloc, &tokens[..at + 1])? {
-        return Err(ParseError::DepthLimit { index });
-    }
-    Err(ParseError::Syntax { index })
+    ghost unique = { one_type };
 }
 
 /// The type that all the tokens spell (Haskell 2010 Report, section 4.1.2).
@@ -60,8 +38,7 @@ fn type_of_terminals(alloc: Global, tokens: &[Terminal]) -> Result<TypeTree, Par
 pub fn parse_type(alloc: Global, tokens: &Tokens) -> Result<TypeTree, ParseError>
     ensures answer { IsAnswer (type_form (Some 200)) (type_form None) (map terminal_of tokens.now) result }
 {
-    let terminals = terminals_of(alloc, tokens)?;
-    type_of_terminals(alloc, terminals.as_slice())
+    parse(alloc, tokens)
 }
 
 /// No two types have one spelling, whatever their depth.

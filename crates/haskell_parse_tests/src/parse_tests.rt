@@ -1,7 +1,7 @@
 use bp_base::Bytes;
 use haskell_parse::{parse_kind, parse_pat, parse_type};
+use hs_forms::ParseError;
 use hs_tokens::{Token, TokenKind, Tokens};
-use hs_trees::ParseError;
 use sqlite_items::Items;
 use std::alloc::{AllocError, Global};
 use std::test::Fail;

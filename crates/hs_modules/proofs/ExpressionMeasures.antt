@@ -1,7 +1,7 @@
 -- What the measures of expressions and declarations are made of.
 use Rattle.std.proofs.Common.{◌≡◌, ◌+◌, List, [], ◌∷◌, refl, ap, sym, ◌∙◌, subst}
 use Rattle.std.specs.Prelude.{map, max, min, sum}
-use Rattle.hs_trees.specs.Answers.{deepest}
+use Rattle.hs_forms.specs.Limits.{deepest}
 use Rattle.bp_base.specs.Texts.{Text}
 use Rattle.hs_modules.specs.Measures.{most, capped, nothing, leaf, beside, node, deeper, all_measured}
 use Rattle.hs_modules.proofs.Measuring.{capped_same, nothing_capped, leaf_capped, beside_capped, node_capped, deeper_capped, deeper_min, all_capped}

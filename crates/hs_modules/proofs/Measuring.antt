@@ -3,7 +3,7 @@ use Rattle.std.proofs.Common.{◌≡◌, ℕ, suc, ◌+◌, ◌<◌, List, [], �
 use Rattle.std.specs.Prelude.{map, max, min, sum}
 use Rattle.std.proofs.lemmas.List.{map-append}
 use Rattle.std.proofs.Math.Seq.{take-suc}
-use Rattle.hs_trees.specs.Answers.{deepest}
+use Rattle.hs_forms.specs.Limits.{deepest}
 use Rattle.hs_modules.specs.declared.measure.Measure.{Measure}
 use Rattle.hs_modules.specs.Measures.{most, capped, nothing, leaf, beside, node, deeper, with_nodes, all_measured}
 

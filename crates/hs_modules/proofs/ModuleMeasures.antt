@@ -1,7 +1,7 @@
 -- What the measures of modules and signatures are made of.
 use Rattle.std.proofs.Common.{◌≡◌, ◌+◌, List, length, refl, ap, sym, ◌∙◌}
 use Rattle.std.specs.Prelude.{map, max, sum}
-use Rattle.hs_trees.specs.Answers.{deepest}
+use Rattle.hs_forms.specs.Limits.{deepest}
 use Rattle.bp_base.specs.Texts.{Text}
 use Rattle.hs_modules.specs.Measures.{capped, nothing, leaf, beside, node, with_nodes, all_measured}
 use Rattle.hs_modules.proofs.Measuring.{nothing_capped, leaf_capped, beside_capped, node_capped, with_nodes_capped, all_capped}

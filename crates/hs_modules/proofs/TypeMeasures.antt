@@ -1,7 +1,7 @@
 -- What the measures of types and kinds are made of.
 use Rattle.std.proofs.Common.{◌≡◌, ℕ, ◌+◌, List, length, ap, sym, ◌∙◌, subst}
 use Rattle.std.specs.Prelude.{map, max, sum}
-use Rattle.hs_trees.specs.Answers.{deepest}
+use Rattle.hs_forms.specs.Limits.{deepest}
 use Rattle.bp_base.specs.Texts.{Text}
 use Rattle.hs_modules.specs.Measures.{capped, leaf, beside, node, deeper, with_nodes, all_measured}
 use Rattle.hs_modules.proofs.Measuring.{capped_same, leaf_capped, beside_capped, node_capped, deeper_capped, with_nodes_capped, all_capped}

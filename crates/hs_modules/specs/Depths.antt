@@ -1,7 +1,7 @@
 -- The depth of a tree. Names, literals and operators by themselves have none. Brackets, tuples, lists, sections, lambda, `let`, `if`, `case`, a `where` block, an
 -- annotation, `x@p` and `~p` add 1 to their deepest part; a chain adds the number of its operators and signs. All else has the depth of its deepest part.
 use Rattle.std.specs.Prelude.{ℕ, ◌+◌, max, Bool, true, false, map, sum}
-use Rattle.hs_trees.specs.Answers.{deepest}
+use Rattle.hs_forms.specs.Limits.{deepest}
 use Rattle.hs_trees.specs.Patterns.{depth_of_apat, depth_of_lpat, depth_of_op, depth_of_pat}
 use Rattle.hs_trees.specs.declared.patterns.OpLPat.{OpLPat}
 use Rattle.hs_trees.specs.Types.{depth_of_type}

@@ -1,7 +1,7 @@
 -- Which trees of expressions and declarations a source can have. A lambda, `let` or `if` takes all that can stand behind it, so it is the last operand of its chain, and no
 -- section or annotation is put behind such a chain (Haskell 2010 Report, section 3).
 use Rattle.std.specs.Prelude.{ℕ, Bool, true, false, not, ◌&&◌, nat_lt, nat_le, nat_eq, Option, Some, None, List, [], ◌∷◌, length, map}
-use Rattle.hs_trees.specs.Answers.{all_of}
+use Rattle.hs_forms.specs.Limits.{all_of}
 use Rattle.hs_trees.specs.Types.{is_type}
 use Rattle.hs_trees.specs.Patterns.{is_gcon, is_apat, is_lpat, is_pat}
 use Rattle.hs_modules.specs.Words.{is_operator, is_bare_minus}

@@ -1,6 +1,6 @@
 -- Numbers of nodes and depths as the code counts them, each at most the greatest u64.
 use Rattle.std.specs.Prelude.{ℕ, ◌+◌, max, min, List, map, sum}
-use Rattle.hs_trees.specs.Answers.{deepest}
+use Rattle.hs_forms.specs.Limits.{deepest}
 use Rattle.hs_modules.specs.declared.measure.Measure.{Measure}
 
 -- the greatest u64

@@ -1,6 +1,6 @@
 -- The sizes and depths of modules and signatures, from those of their parts.
 use Rattle.std.specs.Prelude.{ℕ, ◌+◌, max, length, map, sum}
-use Rattle.hs_trees.specs.Answers.{deepest}
+use Rattle.hs_forms.specs.Limits.{deepest}
 use Rattle.hs_trees.specs.Types.{depth_of_atype, depth_of_btype, depth_of_type}
 use Rattle.hs_trees.specs.Kinds.{depth_of_kind}
 use Rattle.hs_modules.specs.Sizes.{size_of_atype, size_of_btype, size_of_type, size_of_kind, size_of_decl}

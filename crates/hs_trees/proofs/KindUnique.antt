@@ -1,18 +1,20 @@
 -- At most one kind is spelled by a list of tokens, whatever its depth.
 use Rattle.std.proofs.Common.{◌≡◌, ℕ, zero, suc, ◌+◌, ◌≤◌, false, List, [], ◌∷◌, ◌++◌, length, refl, sym, ap, ◌∙◌, subst, arith, length-append, le_refl}
 use Rattle.std.specs.Prelude.{flat_map, None}
-use Rattle.hs_trees.specs.Reading.{begins, Reads}
-use Rattle.hs_trees.specs.Whole.{Spells}
+use Rattle.hs_forms.specs.Reading.{begins, Reads}
+use Rattle.hs_forms.specs.Whole.{Spells}
 use Rattle.hs_tokens.specs.Terminals.{is_arrow, star}
 use Rattle.hs_trees.specs.Kinds.{Ts, spelling_akind, spelling_kind, starts_akind, akind_form, kind_form}
 use Rattle.hs_tokens.specs.declared.terminal.Terminal.TheVariants as t
 use Rattle.hs_trees.specs.declared.types.AKindTree.{AKindTree, AKindTree-F, out-AKindTree, roll-AKindTree, roll-out-AKindTree}
 use Rattle.hs_trees.specs.declared.types.AKindTree.TheVariants as a
 use Rattle.hs_trees.specs.declared.types.KindTree.{KindTree, out-KindTree, roll-KindTree, roll-out-KindTree}
-use Rattle.hs_trees.proofs.Forms.{closed, reads_behind, reads_closed}
-use Rattle.hs_trees.proofs.Narrow.{lead_reads}
-use Rattle.hs_trees.proofs.Readable.{chain_all, part_length, some_length}
-use Rattle.hs_trees.proofs.KindReturns.{ALayer, KLayer, kind_spelled, parens_spelled, akind_starts, arrow_kinds, kind_chain, star_ok, parens_leads}
+use Rattle.hs_forms.specs.Forms.{closed}
+use Rattle.hs_forms.proofs.FormLemmas.{reads_behind, reads_closed}
+use Rattle.hs_forms.proofs.VariantLemmas.{lead_reads}
+use Rattle.hs_forms.proofs.WholeChainLemmas.{chain_all, part_length}
+use Rattle.hs_forms.proofs.WholeChainLemmas.{begins_length}
+use Rattle.hs_trees.proofs.KindLemmas.{ALayer, KLayer, kind_spelled, parens_spelled, akind_starts, arrow_kinds, kind_chain, star_ok, parens_leads}
 
 abbrev Upto : ℕ → Type 0
 Upto n = (x : AKindTree) → length (spelling_akind x) ≤ n → (rest : Ts) → Reads (akind_form None) x rest
@@ -45,7 +47,7 @@ module _ (n : ℕ) (below : Upto n) where
       (reads_closed (kind_form None) t.RightParen (λ x. refl) k rest (kind_all k len (t.RightParen ∷ rest) refl)))
 
 upto : (n : ℕ) → Upto n
-upto zero = λ x short rest. absurd (let some = some_length starts_akind (spelling_akind x) (akind_starts x) in omega arith)
+upto zero = λ x short rest. absurd (let some = begins_length starts_akind (spelling_akind x) (akind_starts x) in omega arith)
 upto (suc n) =
     λ x. subst (λ o. length (spelling_akind o) ≤ suc n → (rest : Ts) → Reads (akind_form None) o rest)
     (roll-out-AKindTree x) (akind_of n (upto n) (out-AKindTree x))

@@ -1,11 +1,3 @@
-pub mod Forms
-pub mod Either
-pub mod Narrow
-pub mod Limits
-pub mod Chains
-pub mod Readable
-pub mod Whole
-pub mod Commas
 pub mod TypeLayers
 pub mod TypeCases
 pub mod TypeChains
@@ -21,5 +13,5 @@ pub mod PatternLPats
 pub mod PatternReturns
 pub mod PatternUnique
 pub mod PatternHits
-pub mod KindReturns
+pub mod KindLemmas
 pub mod KindUnique

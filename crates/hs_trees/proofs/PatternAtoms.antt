@@ -3,14 +3,15 @@ use Rattle.std.proofs.Common.{◌≡◌, ℕ, zero, suc, ◌+◌, ◌<◌, Bool,
 use Rattle.std.specs.Prelude.{replicate, Option}
 use Rattle.std.proofs.lemmas.List.{append-nil}
 use Rattle.std.proofs.lemmas.Bool.Decides.{nat_tests}
-use Rattle.hs_trees.specs.Reading.{SameStart, begins, Reads, Refuses}
-use Rattle.hs_trees.specs.Answers.{Within, lowered, Accepts, Rejects, Fails}
+use Rattle.hs_forms.specs.Reading.{SameStart, begins, Reads, Refuses}
+use Rattle.hs_forms.specs.Limits.{Within, lowered}
+use Rattle.hs_forms.specs.Answers.{Accepts, Rejects, Fails}
 use Rattle.hs_tokens.specs.Terminals.{is_at, is_comma, is_integer, is_right_paren, is_con}
-use Rattle.hs_trees.specs.Types.{tuple_name_form}
-use Rattle.hs_trees.specs.Patterns.{Ts, literal_token, var_tokens, gcon_tokens, spelling_apat, is_gcon, is_apat, depth_of_apat, starts_apat, starts_pat, opens_name, apat_form, Pats}
+use Rattle.hs_trees.specs.Types.{tuple_name_form, starts_tuple_name}
+use Rattle.hs_trees.specs.Patterns.{Ts, literal_token, var_tokens, gcon_tokens, named_con, spelling_apat, is_gcon, is_apat, depth_of_apat, starts_apat, starts_pat, opens_name, apat_form, Pats}
 use Rattle.hs_tokens.specs.declared.terminal.Terminal.{Terminal}
 use Rattle.hs_tokens.specs.declared.terminal.Terminal.TheVariants as t
-use Rattle.hs_trees.specs.declared.fault.Fault.{Fault}
+use Rattle.hs_forms.specs.declared.fault.Fault.{Fault}
 use Rattle.hs_trees.specs.declared.patterns.LiteralTree.{LiteralTree}
 use Rattle.hs_trees.specs.declared.patterns.LiteralTree.TheVariants as l
 use Rattle.hs_trees.specs.declared.patterns.VarTree.{VarTree}
@@ -19,12 +20,14 @@ use Rattle.hs_trees.specs.declared.patterns.GConTree.{GConTree}
 use Rattle.hs_trees.specs.declared.patterns.GConTree.TheVariants as g
 use Rattle.hs_trees.specs.declared.patterns.APatTree.{APatTree, APatTree-F}
 use Rattle.hs_trees.specs.declared.patterns.APatTree.TheVariants as a
-use Rattle.hs_trees.proofs.Forms.{begins_same, same_start_append}
-use Rattle.hs_trees.proofs.Limits.{within_less, within_lowered, within_raised, within_zero}
-use Rattle.hs_trees.proofs.Chains.{fails_after}
-use Rattle.hs_trees.proofs.Narrow.{Leads, lead_reads, lead_refuses, Variant, variant_reads, leaf, reads_leaf, none_refused}
+use Rattle.hs_forms.proofs.FormLemmas.{begins_same, same_start_append}
+use Rattle.hs_forms.proofs.LimitLemmas.{within_less, within_lowered, within_raised, within_zero}
+use Rattle.hs_forms.proofs.StateLemmas.{fails_after}
+use Rattle.hs_forms.specs.Productions.{Leads, Variant}
+use Rattle.hs_forms.proofs.VariantLemmas.{lead_reads, lead_refuses, variant_reads, reads_leaf, none_refused}
+use Rattle.hs_forms.specs.Forms.{leaf}
 use Rattle.hs_trees.proofs.PatternLayers.{apat_spelled, apat_deep, apat_is, apat_starts}
-use Rattle.hs_trees.proofs.PatternCases.{parts_deep, as_spelled, as_deep, as_is, lazy_spelled, lazy_deep, lazy_is, var_spelled, var_deep, var_is, con_spelled, con_deep, con_is, is_underscore, is_literal, is_tilde, is_name, pat_no_name, pats_start, ParenCase, of_unit, of_tuple, of_con, of_colon, of_var, of_as, of_parts, paren_cases, VarCase, of_name, of_bound, var_cases, wild_only, con_only, literal_only, lazy_only, of_layer}
+use Rattle.hs_trees.proofs.PatternCases.{parts_deep, as_spelled, as_deep, as_is, lazy_spelled, lazy_deep, lazy_is, var_spelled, var_deep, var_is, con_spelled, con_deep, con_is, is_underscore, is_literal, is_tilde, is_name, pat_no_name, pats_start, ParenCase, of_commas, of_con, of_colon, of_var, of_as, of_parts, paren_cases, VarCase, of_name, of_bound, var_cases, wild_only, con_only, literal_only, lazy_only, of_layer}
 
 var_long : (n : VarTree) → 0 < length (var_tokens n)
 var_long (v.Id n) = omega arith
@@ -36,13 +39,13 @@ clash f xs ys h e k = true≢false (sym h ∙ ap (begins f) e ∙ k)
 pub name_clash : (xs ys : Ts) → is_name xs ≡ true → xs ≡ ys → is_name ys ≡ false → ⊥
 name_clash xs ys h e k = true≢false (sym h ∙ ap is_name e ∙ k)
 
-pub comma_name : (n : ℕ) (s : Ts) → 0 < n → is_name ((replicate n t.Comma ++ t.RightParen ∷ []) ++ s) ≡ true
-comma_name zero s h = absurd (omega arith)
-comma_name (suc n) s h = refl
+pub comma_name : (n : ℕ) (s : Ts) → is_name ((replicate n t.Comma ++ t.RightParen ∷ []) ++ s) ≡ true
+comma_name zero s = refl
+comma_name (suc n) s = refl
 
-comma_first : (n : ℕ) (s : Ts) → 0 < n → begins is_comma ((replicate n t.Comma ++ t.RightParen ∷ []) ++ s) ≡ true
-comma_first zero s h = absurd (omega arith)
-comma_first (suc n) s h = refl
+name_first : (n : ℕ) (s : Ts) → begins starts_tuple_name ((replicate n t.Comma ++ t.RightParen ∷ []) ++ s) ≡ true
+name_first zero s = refl
+name_first (suc n) s = refl
 
 module _ (limit : Option ℕ) where
   pub con_good : (c : GConTree) → is_gcon c ≡ true → (apat_form limit).Good (a.Con c)
@@ -280,24 +283,10 @@ module _ (limit : Option ℕ) where
     room = omega (arith, ap length at, length-append body rest);
   }
 
-  unit_decide : (s : Ts) (other : APatTree) (after : Ts) → ParenCase other (t.RightParen ∷ s) after → (other ≡ a.Con g.Unit) × (after ≡ s)
-  unit_decide s other after (of_unit eq e) = (eq, cc)
-  unit_decide s other after (of_tuple zero eq some most e) = absurd (omega arith)
-  unit_decide s other after (of_tuple (suc n) eq some most e) = absurd cc
-  unit_decide s other after (of_con n eq e) = absurd cc
-  unit_decide s other after (of_colon eq e) = absurd cc
-  unit_decide s other after (of_var n eq e) = absurd cc
-  unit_decide s other after (of_as n x eq is e) = absurd cc
-  unit_decide s other after (of_parts p eq are e) = absurd (name_clash _ _ refl e (pat_no_name _ (pats_start p t.RightParen after)))
-
-  pub unit_ok : (ts rest : Ts) → ts ≡ t.RightParen ∷ rest → Accepts (apat_form limit) depth_of_apat (t.LeftParen ∷ ts) (a.Con g.Unit) rest 0
-  unit_ok ts rest at = paren_ok g.Unit (t.RightParen ∷ []) ts rest refl refl at (λ s other after same c. unit_decide s other after c)
-
   sym_decide : (m : List ℕ) (s : Ts) (other : APatTree) (after : Ts) → ParenCase other (t.ConSym m ∷ t.RightParen ∷ s) after →
       (other ≡ a.Con (g.Sym m)) × (after ≡ s)
-  sym_decide m s other after (of_unit eq e) = absurd cc
-  sym_decide m s other after (of_tuple zero eq some most e) = absurd (omega arith)
-  sym_decide m s other after (of_tuple (suc n) eq some most e) = absurd cc
+  sym_decide m s other after (of_commas zero eq most e) = absurd cc
+  sym_decide m s other after (of_commas (suc n) eq most e) = absurd cc
   sym_decide m s other after (of_con n eq e) = let same : n ≡ m = cc in (eq ∙ ap (λ k. a.Con (g.Sym k)) same, cc)
   sym_decide m s other after (of_colon eq e) = absurd cc
   sym_decide m s other after (of_var n eq e) = absurd cc
@@ -310,9 +299,8 @@ module _ (limit : Option ℕ) where
       paren_ok (g.Sym m) (t.ConSym m ∷ t.RightParen ∷ []) ts rest refl refl (at ∙ ap (λ l. t.ConSym m ∷ l) shut) (λ s other after same c. sym_decide m s other after c)
 
   colon_decide : (s : Ts) (other : APatTree) (after : Ts) → ParenCase other (t.Colon ∷ t.RightParen ∷ s) after → (other ≡ a.Con g.Colon) × (after ≡ s)
-  colon_decide s other after (of_unit eq e) = absurd cc
-  colon_decide s other after (of_tuple zero eq some most e) = absurd (omega arith)
-  colon_decide s other after (of_tuple (suc n) eq some most e) = absurd cc
+  colon_decide s other after (of_commas zero eq most e) = absurd cc
+  colon_decide s other after (of_commas (suc n) eq most e) = absurd cc
   colon_decide s other after (of_con n eq e) = absurd cc
   colon_decide s other after (of_colon eq e) = (eq, cc)
   colon_decide s other after (of_var n eq e) = absurd cc
@@ -328,26 +316,32 @@ module _ (limit : Option ℕ) where
   no_extends [] = refl
   no_extends (x ∷ xs) = refl
 
-  tuple_decide : (n : ℕ) (rest : Ts) → 0 < n → Reads tuple_name_form n rest → (s : Ts) (other : APatTree) (after : Ts) → SameStart rest s →
-      ParenCase other ((replicate n t.Comma ++ t.RightParen ∷ []) ++ s) after → (other ≡ a.Con (g.Tuple n)) × (after ≡ s)
-  tuple_decide n rest lt r s other after same (of_unit eq e) = absurd (clash is_comma _ _ (comma_first n s lt) e refl)
-  tuple_decide n rest lt r s other after same (of_con m eq e) = absurd (clash is_comma _ _ (comma_first n s lt) e refl)
-  tuple_decide n rest lt r s other after same (of_colon eq e) = absurd (clash is_comma _ _ (comma_first n s lt) e refl)
-  tuple_decide n rest lt r s other after same (of_var m eq e) = absurd (clash is_comma _ _ (comma_first n s lt) e refl)
-  tuple_decide n rest lt r s other after same (of_as m x eq is e) = absurd (clash is_comma _ _ (comma_first n s lt) e refl)
-  tuple_decide n rest lt r s other after same (of_tuple m eq some most e) =
-      let found = r.only s m after same (some, most) (no_extends after) e in (eq ∙ ap (λ k. a.Con (g.Tuple k)) found.0, found.1)
-  tuple_decide n rest lt r s other after same (of_parts p eq are e) =
-      absurd (name_clash _ _ (comma_name n s lt) e (pat_no_name _ (pats_start p t.RightParen after)))
+  tuple_decide : (n : ℕ) (rest : Ts) → Reads tuple_name_form n rest → (s : Ts) (other : APatTree) (after : Ts) → SameStart rest s →
+      ParenCase other ((replicate n t.Comma ++ t.RightParen ∷ []) ++ s) after → (other ≡ a.Con (named_con n)) × (after ≡ s)
+  tuple_decide n rest r s other after same (of_con m eq e) = absurd (clash starts_tuple_name _ _ (name_first n s) e refl)
+  tuple_decide n rest r s other after same (of_colon eq e) = absurd (clash starts_tuple_name _ _ (name_first n s) e refl)
+  tuple_decide n rest r s other after same (of_var m eq e) = absurd (clash starts_tuple_name _ _ (name_first n s) e refl)
+  tuple_decide n rest r s other after same (of_as m x eq is e) = absurd (clash starts_tuple_name _ _ (name_first n s) e refl)
+  tuple_decide n rest r s other after same (of_commas m eq most e) =
+      let found = r.only s m after same most (no_extends after) e in
+      (eq ∙ ap (λ k. a.Con (named_con k)) found.0, found.1)
+  tuple_decide n rest r s other after same (of_parts p eq are e) =
+      absurd (name_clash _ _ (comma_name n s) e (pat_no_name _ (pats_start p t.RightParen after)))
 
-  tuple_gcon : (n : ℕ) → (0 < n) × (n < 15) → is_gcon (g.Tuple n) ≡ true
-  tuple_gcon n h = grind (arith, nat_tests)
+  named_gcon : (n : ℕ) → n < 15 → is_gcon (named_con n) ≡ true
+  named_gcon zero most = refl
+  named_gcon (suc n) most = grind (arith, nat_tests)
 
-  pub tuple_ok : (ts : Ts) (n : ℕ) (rest : Ts) → Accepts tuple_name_form (λ n. 0) ts n rest 0 →
-      Accepts (apat_form limit) depth_of_apat (t.LeftParen ∷ ts) (a.Con (g.Tuple n)) rest 0
-  tuple_ok ts n rest acc =
-      paren_ok (g.Tuple n) (replicate n t.Comma ++ t.RightParen ∷ []) ts rest (tuple_gcon n acc.reads.good) refl acc.spelled
-      (λ s other after same c. tuple_decide n rest acc.reads.good.0 acc.reads s other after same c)
+  named_tokens : (n : ℕ) → gcon_tokens (named_con n) ≡ t.LeftParen ∷ (replicate n t.Comma ++ t.RightParen ∷ [])
+  named_tokens zero = refl
+  named_tokens (suc n) = refl
+
+  pub tuple_ok : (ts : Ts) (n : ℕ) (rest : Ts) (d : ℕ) → Accepts tuple_name_form (λ n. 0) ts n rest d →
+      Accepts (apat_form limit) depth_of_apat (t.LeftParen ∷ ts) (a.Con (named_con n)) rest d
+  tuple_ok ts n rest d acc =
+      subst (λ m. Accepts (apat_form limit) depth_of_apat (t.LeftParen ∷ ts) (a.Con (named_con n)) rest m) (sym acc.measured_is)
+      (paren_ok (named_con n) (replicate n t.Comma ++ t.RightParen ∷ []) ts rest (named_gcon n acc.reads.good) (named_tokens n) acc.spelled
+      (λ s other after same c. tuple_decide n rest acc.reads s other after same c))
 
   -- Refusals behind a `(`.
   pub paren_refused : (before bad more : Ts) (x : APatTree) → (apat_form limit).Good x → spelling_apat x ≡ t.LeftParen ∷ (before ++ more) →
@@ -359,28 +353,30 @@ module _ (limit : Option ℕ) where
   }
 
   tuple_only : (before bad : Ts) → Refuses tuple_name_form before bad → (s : Ts) (other : APatTree) (after : Ts) →
-      SameStart bad s → begins is_comma (before ++ s) ≡ true → ParenCase other (before ++ s) after → ⊥
-  tuple_only before bad r s other after same comma (of_unit eq e) = clash is_comma _ _ comma e refl
-  tuple_only before bad r s other after same comma (of_con m eq e) = clash is_comma _ _ comma e refl
-  tuple_only before bad r s other after same comma (of_colon eq e) = clash is_comma _ _ comma e refl
-  tuple_only before bad r s other after same comma (of_var m eq e) = clash is_comma _ _ comma e refl
-  tuple_only before bad r s other after same comma (of_as m x eq is e) = clash is_comma _ _ comma e refl
-  tuple_only before bad r s other after same comma (of_tuple n eq some most e) = r.never s n after same (some, most) (no_extends after) e
-  tuple_only before bad r s other after same comma (of_parts p eq are e) = clash is_comma _ _ comma e (no_comma _ (pats_start p t.RightParen after))
+      SameStart bad s → begins starts_tuple_name (before ++ s) ≡ true → ParenCase other (before ++ s) after → ⊥
+  tuple_only before bad r s other after same name (of_con m eq e) = clash starts_tuple_name _ _ name e refl
+  tuple_only before bad r s other after same name (of_colon eq e) = clash starts_tuple_name _ _ name e refl
+  tuple_only before bad r s other after same name (of_var m eq e) = clash starts_tuple_name _ _ name e refl
+  tuple_only before bad r s other after same name (of_as m x eq is e) = clash starts_tuple_name _ _ name e refl
+  tuple_only before bad r s other after same name (of_commas n eq most e) = r.never s n after same most (no_extends after) e
+  tuple_only before bad r s other after same name (of_parts p eq are e) =
+      clash starts_tuple_name _ _ name e (no_tuple _ (pats_start p t.RightParen after))
     where
-      no_comma : (xs : Ts) → starts_pat xs ≡ true → begins is_comma xs ≡ false
-      no_comma [] h = refl
-      no_comma (t.Comma ∷ xs) h = absurd (true≢false (sym h))
-      no_comma (_ ∷ xs) h = refl
+      no_tuple : (xs : Ts) → starts_pat xs ≡ true → begins starts_tuple_name xs ≡ false
+      no_tuple [] h = refl
+      no_tuple (t.Comma ∷ xs) h = absurd (true≢false (sym h))
+      no_tuple (t.RightParen ∷ xs) h = absurd (true≢false (sym h))
+      no_tuple (_ ∷ xs) h = refl
 
-  pub tuple_fails : (ts : Ts) (e : Fault) → begins is_comma ts ≡ true → Fails tuple_name_form ts e → Fails (apat_form limit) (t.LeftParen ∷ ts) e
-  tuple_fails ts e comma r =
+  pub tuple_fails : (ts : Ts) (e : Fault) → begins starts_tuple_name ts ≡ true → Fails tuple_name_form ts e →
+      Fails (apat_form limit) (t.LeftParen ∷ ts) e
+  tuple_fails ts e name r =
       fails_after (apat_form limit) tuple_name_form (t.LeftParen ∷ []) (t.LeftParen ∷ ts) ts e refl
       (λ before bad split q.
-      paren_refused before bad q.begun.0 (a.Con (g.Tuple q.begun.1)) (con_good (g.Tuple q.begun.1) (tuple_gcon q.begun.1 q.begun.2))
-      (con_spelled (g.Tuple q.begun.1) ∙ ap (λ xs. t.LeftParen ∷ xs) (sym q.begun.3))
+      paren_refused before bad q.begun.0 (a.Con (named_con q.begun.1)) (con_good (named_con q.begun.1) (named_gcon q.begun.1 q.begun.2))
+      (con_spelled (named_con q.begun.1) ∙ named_tokens q.begun.1 ∙ ap (λ xs. t.LeftParen ∷ xs) (sym q.begun.3))
       (λ s other after same good c. tuple_only before bad q s other after same
-      (begins_same is_comma _ _ (same_start_append before bad s same) ∙ ap (begins is_comma) (sym split) ∙ comma) c)) r
+      (begins_same starts_tuple_name _ _ (same_start_append before bad s same) ∙ ap (begins starts_tuple_name) (sym split) ∙ name) c)) r
 
   -- a symbol and no `)`
   shut_missed : (s : Ts) (rest bad : Ts) → SameStart bad s → begins is_right_paren bad ≡ false → s ≡ t.RightParen ∷ rest → ⊥
@@ -388,9 +384,8 @@ module _ (limit : Option ℕ) where
 
   sym_missed : (m : List ℕ) (bad s : Ts) (other : APatTree) (after : Ts) → SameStart bad s → begins is_right_paren bad ≡ false →
       ParenCase other (t.ConSym m ∷ s) after → ⊥
-  sym_missed m bad s other after same ends (of_unit eq e) = cc
-  sym_missed m bad s other after same ends (of_tuple zero eq some most e) = absurd (omega arith)
-  sym_missed m bad s other after same ends (of_tuple (suc n) eq some most e) = cc
+  sym_missed m bad s other after same ends (of_commas zero eq most e) = cc
+  sym_missed m bad s other after same ends (of_commas (suc n) eq most e) = cc
   sym_missed m bad s other after same ends (of_con n eq e) = shut_missed s after bad same ends cc
   sym_missed m bad s other after same ends (of_colon eq e) = cc
   sym_missed m bad s other after same ends (of_var n eq e) = cc
@@ -410,9 +405,8 @@ module _ (limit : Option ℕ) where
 
   colon_missed : (bad s : Ts) (other : APatTree) (after : Ts) → SameStart bad s → begins is_right_paren bad ≡ false →
       ParenCase other (t.Colon ∷ s) after → ⊥
-  colon_missed bad s other after same ends (of_unit eq e) = cc
-  colon_missed bad s other after same ends (of_tuple zero eq some most e) = absurd (omega arith)
-  colon_missed bad s other after same ends (of_tuple (suc n) eq some most e) = cc
+  colon_missed bad s other after same ends (of_commas zero eq most e) = cc
+  colon_missed bad s other after same ends (of_commas (suc n) eq most e) = cc
   colon_missed bad s other after same ends (of_con n eq e) = cc
   colon_missed bad s other after same ends (of_colon eq e) = shut_missed s after bad same ends cc
   colon_missed bad s other after same ends (of_var n eq e) = cc
@@ -445,9 +439,8 @@ module _ (limit : Option ℕ) where
   -- a symbol, and neither `)` nor, behind `-`, an integer
   op_missed : (m : List ℕ) (bad s : Ts) (other : APatTree) (after : Ts) → SameStart bad s → begins is_right_paren bad ≡ false →
       starts_pat (t.VarSym m ∷ bad) ≡ false → ParenCase other (t.VarSym m ∷ s) after → ⊥
-  op_missed m bad s other after same ends missed (of_unit eq e) = cc
-  op_missed m bad s other after same ends missed (of_tuple zero eq some most e) = absurd (omega arith)
-  op_missed m bad s other after same ends missed (of_tuple (suc n) eq some most e) = cc
+  op_missed m bad s other after same ends missed (of_commas zero eq most e) = cc
+  op_missed m bad s other after same ends missed (of_commas (suc n) eq most e) = cc
   op_missed m bad s other after same ends missed (of_con n eq e) = cc
   op_missed m bad s other after same ends missed (of_colon eq e) = cc
   op_missed m bad s other after same ends missed (of_var n eq e) = shut_missed s after bad same ends cc
@@ -473,9 +466,8 @@ module _ (limit : Option ℕ) where
   -- `(- 1` where no depth is left
   minus_deep : (m : List ℕ) (bad s : Ts) (other : APatTree) (after : Ts) → SameStart bad s → begins is_integer bad ≡ true → (Within limit 1 → ⊥) →
       (apat_form limit).Good other → ParenCase other (t.VarSym m ∷ s) after → ⊥
-  minus_deep m bad s other after same int over good (of_unit eq e) = cc
-  minus_deep m bad s other after same int over good (of_tuple zero eq some most e) = absurd (omega arith)
-  minus_deep m bad s other after same int over good (of_tuple (suc n) eq some most e) = cc
+  minus_deep m bad s other after same int over good (of_commas zero eq most e) = cc
+  minus_deep m bad s other after same int over good (of_commas (suc n) eq most e) = cc
   minus_deep m bad s other after same int over good (of_con n eq e) = cc
   minus_deep m bad s other after same int over good (of_colon eq e) = cc
   minus_deep m bad s other after same int over good (of_var n eq e) =
@@ -516,8 +508,7 @@ module _ (limit : Option ℕ) where
   }
     where
       deep : (s : Ts) (other : APatTree) (after : Ts) → (apat_form limit).Good other → is_name s ≡ false → ParenCase other s after → ⊥
-      deep s other after good missed (of_unit eq e) = name_clash _ _ refl (sym e) missed
-      deep s other after good missed (of_tuple n eq some most e) = name_clash _ _ (comma_name n after some) (sym e) missed
+      deep s other after good missed (of_commas n eq most e) = name_clash _ _ (comma_name n after) (sym e) missed
       deep s other after good missed (of_con n eq e) = name_clash _ _ refl (sym e) missed
       deep s other after good missed (of_colon eq e) = name_clash _ _ refl (sym e) missed
       deep s other after good missed (of_var n eq e) = name_clash _ _ refl (sym e) missed
@@ -536,8 +527,7 @@ module _ (limit : Option ℕ) where
   }
     where
       at_end : (s : Ts) (other : APatTree) (after : Ts) → s ≡ [] → ParenCase other s after → ⊥
-      at_end s other after same (of_unit eq e) = name_clash _ _ refl (sym e) (ap is_name same)
-      at_end s other after same (of_tuple n eq some most e) = name_clash _ _ (comma_name n after some) (sym e) (ap is_name same)
+      at_end s other after same (of_commas n eq most e) = name_clash _ _ (comma_name n after) (sym e) (ap is_name same)
       at_end s other after same (of_con n eq e) = name_clash _ _ refl (sym e) (ap is_name same)
       at_end s other after same (of_colon eq e) = name_clash _ _ refl (sym e) (ap is_name same)
       at_end s other after same (of_var n eq e) = name_clash _ _ refl (sym e) (ap is_name same)

@@ -5,25 +5,29 @@ use Rattle.std.specs.Str.{bytes_eq}
 use Rattle.std.proofs.lemmas.Slice.Eq.{bytes_eq-Decides}
 use Rattle.std.proofs.lemmas.List.{append-nil}
 use Rattle.std.proofs.lemmas.Bool.Decides.{nat_tests}
-use Rattle.hs_trees.specs.Reading.{Form, SameStart, begins, Reads, Refuses}
-use Rattle.hs_trees.specs.Answers.{Within, lowered, Accepts, Rejects, Fails}
+use Rattle.hs_forms.specs.Reading.{Form, SameStart, begins, Reads, Refuses}
+use Rattle.hs_forms.specs.Limits.{Within, lowered}
+use Rattle.hs_forms.specs.Answers.{Accepts, Rejects, Fails}
 use Rattle.hs_tokens.specs.Terminals.{is_right_paren, is_right_bracket, minus}
 use Rattle.hs_trees.specs.Patterns.{Ts, spelling_apat, spelling_pat, spelling_lpat, is_pat, is_lpat, depth_of_apat, depth_of_pat, depth_of_lpat, starts_pat, opens_name, opens_pat, apat_form, Pats, pats_form, spelling_pats, depth_of_pats}
 use Rattle.hs_tokens.specs.declared.terminal.Terminal.{Terminal}
 use Rattle.hs_tokens.specs.declared.terminal.Terminal.TheVariants as t
-use Rattle.hs_trees.specs.declared.fault.Fault.{Fault}
+use Rattle.hs_forms.specs.declared.fault.Fault.{Fault}
 use Rattle.hs_trees.specs.declared.patterns.GConTree.TheVariants as g
 use Rattle.hs_trees.specs.declared.patterns.PatTree.{PatTree}
 use Rattle.hs_trees.specs.declared.patterns.LPatTree.{LPatTree-F}
 use Rattle.hs_trees.specs.declared.patterns.LPatTree.TheVariants as lp
 use Rattle.hs_trees.specs.declared.patterns.APatTree.{APatTree}
 use Rattle.hs_trees.specs.declared.patterns.APatTree.TheVariants as a
-use Rattle.hs_trees.proofs.Forms.{begins_same, same_start_append, closed, reads_closed, refuses_closed}
-use Rattle.hs_trees.proofs.Limits.{within_less, within_lowered, within_raised, within_zero, and_left, and_right, and_both}
-use Rattle.hs_trees.proofs.Chains.{fails_after}
-use Rattle.hs_trees.proofs.Narrow.{closing_missed, refuses_later}
+use Rattle.hs_forms.proofs.FormLemmas.{begins_same, same_start_append, reads_closed, refuses_closed}
+use Rattle.hs_forms.specs.Forms.{closed}
+use Rattle.std.proofs.lemmas.Bool.{and_from}
+use Rattle.hs_forms.proofs.LimitLemmas.{within_less, within_lowered, within_raised, within_zero, and_left, and_right}
+use Rattle.hs_forms.proofs.StateLemmas.{fails_after}
+use Rattle.hs_forms.proofs.FormLemmas.{closing_missed}
+use Rattle.hs_forms.proofs.UnionLemmas.{refuses_later}
 use Rattle.hs_trees.proofs.PatternLayers.{pat_spelled, pat_is, pat_deep, lpat_spelled, lpat_is, lpat_deep}
-use Rattle.hs_trees.proofs.PatternCases.{are_pats, parts_spelled, parts_deep, parts_are, list_spelled, list_deep, list_are, con_spelled, con_deep, is_name, pat_no_name, pats_start, ParenCase, of_unit, of_tuple, of_con, of_colon, of_var, of_as, of_parts, paren_cases, BracketCase, of_nil, of_list, bracket_cases}
+use Rattle.hs_trees.proofs.PatternCases.{are_pats, parts_spelled, parts_deep, parts_are, list_spelled, list_deep, list_are, con_spelled, con_deep, is_name, pat_no_name, pats_start, ParenCase, of_commas, of_con, of_colon, of_var, of_as, of_parts, paren_cases, BracketCase, of_nil, of_list, bracket_cases}
 use Rattle.hs_trees.proofs.PatternChains.{make_pat}
 use Rattle.hs_trees.proofs.PatternAtoms.{con_good, paren_refused, name_opens, name_clash, comma_name, clash, no_extends}
 
@@ -39,7 +43,7 @@ negative_spelled n =
 negative_is : (n : List ℕ) → is_pat (make_pat (lp.Negative n) []) ≡ true
 negative_is n =
     pat_is (record { first = lp.Negative n; rest = [] })
-    ∙ and_both (is_lpat (lp.Negative n)) true (ap is_lpat (sym (lp.rolls-Negative n)) ∙ lpat_is (LPatTree-F.Negative n)) refl
+    ∙ and_from (is_lpat (lp.Negative n)) true (ap is_lpat (sym (lp.rolls-Negative n)) ∙ lpat_is (LPatTree-F.Negative n)) refl
 
 negative_deep : (n : List ℕ) → depth_of_pats (negative n) ≡ 0
 negative_deep n =
@@ -83,7 +87,7 @@ module _ (limit : Option ℕ) where
   parts_good : (p : Pats) → Within limit 1 → round.Good p → (apat_form limit).Good (a.Parts p.0 p.1)
   parts_good p one good =
       let few = good.0 in (
-        parts_are p ∙ and_both _ _ (grind (arith, nat_tests)) good.1,
+        parts_are p ∙ and_from _ _ (grind (arith, nat_tests)) good.1,
         subst (Within limit) (sym (parts_deep p)) (within_raised limit (depth_of_pats p) 1 one good.2),
       )
 
@@ -109,7 +113,7 @@ module _ (limit : Option ℕ) where
           let shape = minus_shape ts yes_ (opens_starts ts opens yes_) in
           let good : round.Good (negative shape.0) = (
             omega arith,
-            and_both (is_pat (make_pat (lp.Negative shape.0) [])) true (negative_is shape.0) refl,
+            and_from (is_pat (make_pat (lp.Negative shape.0) [])) true (negative_is shape.0) refl,
             subst (Within (lowered limit 1)) (sym (negative_deep shape.0)) (within_zero (lowered limit 1)),
           ) in
           let far = refuses_later round before bad (t.VarSym minus ∷ []) (t.Integer shape.0) shape.1 (t.RightParen ∷ []) (negative shape.0) r
@@ -118,8 +122,7 @@ module _ (limit : Option ℕ) where
 
   parts_only : (before bad : Ts) → Refuses round before bad → (s : Ts) (other : APatTree) (after : Ts) → SameStart bad s → (apat_form limit).Good other →
       is_name (before ++ s) ≡ false → ParenCase other (before ++ s) after → ⊥
-  parts_only before bad r s other after same good missed (of_unit eq e) = name_clash _ _ refl (sym e) missed
-  parts_only before bad r s other after same good missed (of_tuple n eq some most e) = name_clash _ _ (comma_name n after some) (sym e) missed
+  parts_only before bad r s other after same good missed (of_commas n eq most e) = name_clash _ _ (comma_name n after) (sym e) missed
   parts_only before bad r s other after same good missed (of_con n eq e) = name_clash _ _ refl (sym e) missed
   parts_only before bad r s other after same good missed (of_colon eq e) = name_clash _ _ refl (sym e) missed
   parts_only before bad r s other after same good missed (of_var n eq e) = name_clash _ _ refl (sym e) missed
@@ -143,9 +146,8 @@ module _ (limit : Option ℕ) where
 
   parts_decide : (p : Pats) (rest : Ts) → Reads round p rest → (s : Ts) (other : APatTree) (after : Ts) → SameStart rest s → (apat_form limit).Good other →
       ParenCase other ((spelling_pats p ++ t.RightParen ∷ []) ++ s) after → (other ≡ a.Parts p.0 p.1) × (after ≡ s)
-  parts_decide p rest r s other after same good (of_unit eq e) = absurd (name_clash _ _ refl (sym e) (pat_no_name _ (pats_start p t.RightParen s)))
-  parts_decide p rest r s other after same good (of_tuple n eq some most e) =
-      absurd (name_clash _ _ (comma_name n after some) (sym e) (pat_no_name _ (pats_start p t.RightParen s)))
+  parts_decide p rest r s other after same good (of_commas n eq most e) =
+      absurd (name_clash _ _ (comma_name n after) (sym e) (pat_no_name _ (pats_start p t.RightParen s)))
   parts_decide p rest r s other after same good (of_con n eq e) = absurd (name_clash _ _ refl (sym e) (pat_no_name _ (pats_start p t.RightParen s)))
   parts_decide p rest r s other after same good (of_colon eq e) = absurd (name_clash _ _ refl (sym e) (pat_no_name _ (pats_start p t.RightParen s)))
   parts_decide p rest r s other after same good (of_var n eq e) = absurd (name_clash _ _ refl (sym e) (pat_no_name _ (pats_start p t.RightParen s)))

@@ -3,10 +3,10 @@ use Rattle.std.proofs.Common.{◌≡◌, ℕ, zero, suc, ◌+◌, ◌<◌, Bool,
 use Rattle.std.specs.Prelude.{map, replicate, ◌&&◌, nat_lt}
 use Rattle.std.proofs.lemmas.List.Folds.{flat_map-map}
 use Rattle.std.proofs.lemmas.Bool.Decides.{nat_tests}
-use Rattle.hs_trees.specs.Reading.{begins}
-use Rattle.hs_trees.specs.Answers.{all_of}
+use Rattle.hs_forms.specs.Reading.{begins}
+use Rattle.hs_forms.specs.Limits.{all_of}
 use Rattle.hs_tokens.specs.Terminals.{is_con}
-use Rattle.hs_trees.specs.Patterns.{Ts, var_tokens, gcon_tokens, spelling_apat, spelling_pat, is_gcon, is_apat, is_pat, depth_of_apat, Pats, spelling_pats, depth_of_pats, starts_pat}
+use Rattle.hs_trees.specs.Patterns.{Ts, var_tokens, gcon_tokens, named_con, spelling_apat, spelling_pat, is_gcon, is_apat, is_pat, depth_of_apat, Pats, spelling_pats, depth_of_pats, starts_pat}
 use Rattle.hs_tokens.specs.declared.terminal.Terminal.{Terminal}
 use Rattle.hs_tokens.specs.declared.terminal.Terminal.TheVariants as t
 use Rattle.hs_trees.specs.declared.patterns.LiteralTree.{LiteralTree}
@@ -17,7 +17,7 @@ use Rattle.hs_trees.specs.declared.patterns.GConTree.{GConTree}
 use Rattle.hs_trees.specs.declared.patterns.GConTree.TheVariants as g
 use Rattle.hs_trees.specs.declared.patterns.APatTree.{APatTree, APatTree-F, out-APatTree, roll-APatTree, roll-out-APatTree}
 use Rattle.hs_trees.specs.declared.patterns.APatTree.TheVariants as a
-use Rattle.hs_trees.proofs.Limits.{and_left, and_right}
+use Rattle.hs_forms.proofs.LimitLemmas.{and_left, and_right}
 use Rattle.hs_trees.proofs.TypeLayers.{length_of_map}
 use Rattle.hs_trees.proofs.PatternLayers.{ALayer, apat_layer_tokens, apat_spelled, apat_deep, apat_is, pat_starts, starts_pat_append}
 
@@ -143,8 +143,8 @@ tail_is x xs ys e = cc
 
 -- an `apat` that begins with `(`, by what follows
 pub data ParenCase (other : APatTree) (s after : Ts) : Type 0 where
-  of_unit : other ≡ a.Con g.Unit → s ≡ t.RightParen ∷ after → ParenCase other s after
-  of_tuple : (n : ℕ) → other ≡ a.Con (g.Tuple n) → 0 < n → n < 15 → s ≡ (replicate n t.Comma ++ t.RightParen ∷ []) ++ after → ParenCase other s after
+  of_commas : (n : ℕ) → other ≡ a.Con (named_con n) → n < 15 → s ≡ (replicate n t.Comma ++ t.RightParen ∷ []) ++ after →
+      ParenCase other s after
   of_con : (n : List ℕ) → other ≡ a.Con (g.Sym n) → s ≡ t.ConSym n ∷ t.RightParen ∷ after → ParenCase other s after
   of_colon : other ≡ a.Con g.Colon → s ≡ t.Colon ∷ t.RightParen ∷ after → ParenCase other s after
   of_var : (n : List ℕ) → other ≡ a.Var (v.Sym n) → s ≡ t.VarSym n ∷ t.RightParen ∷ after → ParenCase other s after
@@ -160,12 +160,13 @@ paren_layer (APatTree-F.Var (v.Sym n)) s after good e = of_var n (a.rolls-Var (v
 paren_layer (APatTree-F.As (v.Id n) x) s after good e = absurd (true≢false (ap (begins is_left_paren) e))
 paren_layer (APatTree-F.As (v.Sym n) x) s after good e = of_as n x (a.rolls-As (v.Sym n) x) (sym (as_is (v.Sym n) x) ∙ ap is_apat (sym (a.rolls-As (v.Sym n) x)) ∙ good) (tail_is _ _ _ e)
 paren_layer APatTree-F.Wild s after good e = absurd (true≢false (ap (begins is_left_paren) e))
-paren_layer (APatTree-F.Con g.Unit) s after good e = of_unit (a.rolls-Con g.Unit) (tail_is _ _ _ e)
+paren_layer (APatTree-F.Con g.Unit) s after good e = of_commas 0 (a.rolls-Con g.Unit) (omega arith) (tail_is _ _ _ e)
 paren_layer (APatTree-F.Con g.List) s after good e = absurd (true≢false (ap (begins is_left_paren) e))
-paren_layer (APatTree-F.Con (g.Tuple n)) s after good e =
-    let both = sym (apat_is (APatTree-F.Con (g.Tuple n))) ∙ good in
-    of_tuple n (a.rolls-Con (g.Tuple n)) (let h = and_left (nat_lt 0 n) _ both in grind (arith, nat_tests))
-    (let h = and_right (nat_lt 0 n) _ both in grind (arith, nat_tests)) (tail_is _ _ _ e)
+paren_layer (APatTree-F.Con (g.Tuple zero)) s after good e =
+    absurd (true≢false (sym (sym (apat_is (APatTree-F.Con (g.Tuple 0))) ∙ good)))
+paren_layer (APatTree-F.Con (g.Tuple (suc n))) s after good e =
+    let most = and_right (nat_lt 0 (suc n)) _ (sym (apat_is (APatTree-F.Con (g.Tuple (suc n)))) ∙ good) in
+    of_commas (suc n) (a.rolls-Con (g.Tuple (suc n))) (grind (arith, nat_tests)) (tail_is _ _ _ e)
 paren_layer (APatTree-F.Con (g.Con n)) s after good e = absurd (true≢false (ap (begins is_left_paren) e))
 paren_layer (APatTree-F.Con (g.Sym n)) s after good e = of_con n (a.rolls-Con (g.Sym n)) (tail_is _ _ _ e)
 paren_layer (APatTree-F.Con g.Colon) s after good e = of_colon (a.rolls-Con g.Colon) (tail_is _ _ _ e)
@@ -250,9 +251,8 @@ id_layer m (APatTree-F.List x y) s after good e = absurd (true≢false (ap (begi
 id_layer m (APatTree-F.Lazy x) s after good e = absurd (true≢false (ap (begins is_var) e))
 
 sym_case : (m : List ℕ) (other : APatTree) (s after : Ts) → ParenCase other (t.VarSym m ∷ t.RightParen ∷ s) after → VarCase (v.Sym m) other s after
-sym_case m other s after (of_unit eq e) = absurd cc
-sym_case m other s after (of_tuple zero eq some most e) = absurd (omega arith)
-sym_case m other s after (of_tuple (suc n) eq some most e) = absurd cc
+sym_case m other s after (of_commas zero eq most e) = absurd cc
+sym_case m other s after (of_commas (suc n) eq most e) = absurd cc
 sym_case m other s after (of_con n eq e) = absurd cc
 sym_case m other s after (of_colon eq e) = absurd cc
 sym_case m other s after (of_var n eq e) = let same : n ≡ m = cc in of_name (eq ∙ ap (λ k. a.Var (v.Sym k)) same) cc

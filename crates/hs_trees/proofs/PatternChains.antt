@@ -1,7 +1,7 @@
 -- Patterns as chains.
 use Rattle.std.proofs.Common.{◌≡◌, ℕ, ◌+◌, true, false, List, [], ◌∷◌, ◌++◌, length, refl, sym, ◌∙◌, subst, true≢false, arith, length-append}
 use Rattle.std.specs.Prelude.{map, max, ◌||◌, Option}
-use Rattle.hs_trees.specs.Answers.{Within, lowered, deepest}
+use Rattle.hs_forms.specs.Limits.{Within, lowered, deepest}
 use Rattle.hs_tokens.specs.Terminals.{is_at, is_comma, starts_qconop}
 use Rattle.hs_trees.specs.Patterns.{Ts, starts_apat, spelling_apat, spelling_op, spelling_pat, depth_of_apat, depth_of_lpat, depth_of_op, depth_of_pat, is_apat, is_lpat, is_op, is_pat, APats, apat_form, apats_form, lpat_form, pat_form, Few, Pats, pats_form}
 use Rattle.hs_tokens.specs.declared.terminal.Terminal.{Terminal}
@@ -10,8 +10,9 @@ use Rattle.hs_trees.specs.declared.patterns.APatTree.{APatTree}
 use Rattle.hs_trees.specs.declared.patterns.LPatTree.{LPatTree}
 use Rattle.hs_trees.specs.declared.patterns.OpLPat.{OpLPat}
 use Rattle.hs_trees.specs.declared.patterns.PatTree.{PatTree, out-PatTree, roll-PatTree, roll-out-PatTree}
-use Rattle.hs_trees.proofs.Chains.{Chain}
-use Rattle.hs_trees.proofs.Limits.{within_less, within_lowered, within_raised, within_max, within_zero, and_left, and_right, and_both, all_here, all_more, deep_here, deep_front, deep_more, or_left, or_right}
+use Rattle.hs_forms.specs.Productions.{Chain}
+use Rattle.std.proofs.lemmas.Bool.{and_from}
+use Rattle.hs_forms.proofs.LimitLemmas.{within_less, within_lowered, within_raised, within_max, within_zero, and_left, and_right, all_here, all_more, deep_here, deep_front, deep_more, or_left, or_right}
 use Rattle.hs_trees.proofs.PatternLayers.{PLayer, apat_starts, op_starts, pat_spelled, pat_deep, pat_is}
 
 abbrev pub make_pat : LPatTree → List OpLPat → PatTree
@@ -48,7 +49,7 @@ module _ (limit : Option ℕ) where
       (apats_form limit).Good (h, xs ++ x ∷ [])
   apats_more h xs x good room item =
       let new = deep_more depth_of_apat xs x in (
-        and_both _ _ (and_left (is_apat h) _ good.0) (all_more is_apat xs x (and_right (is_apat h) _ good.0) item.0),
+        and_from _ _ (and_left (is_apat h) _ good.0) (all_more is_apat xs x (and_right (is_apat h) _ good.0) item.0),
         within_less limit _ (max (max (depth_of_apat h) (deepest (map depth_of_apat xs))) (depth_of_apat x) + 0) (omega arith)
             (within_max limit _ _ 0 (within_less limit _ _ (omega arith) good.1) (within_less limit _ _ (omega arith) item.1)),
       )
@@ -80,7 +81,7 @@ module _ (limit : Option ℕ) where
       apart_head = λ h x more k good e. apat_apart k e;
       apart_item = λ h xs x y more k good e. apat_apart k e;
     };
-    first = λ h good. (and_both (is_apat h) true good.0 refl, within_less limit _ (depth_of_apat h) (omega arith) good.1);
+    first = λ h good. (and_from (is_apat h) true good.0 refl, within_less limit _ (depth_of_apat h) (omega arith) good.1);
     more = apats_more;
     full = λ h xs x ys good. tt;
   }
@@ -92,7 +93,7 @@ module _ (limit : Option ℕ) where
   pub pat_first : (h : LPatTree) → (lpat_form limit).Good h → (pat_form limit).Good (make_pat h [])
   pat_first h good =
       let l : PLayer = record { first = h; rest = [] } in (
-        pat_is l ∙ and_both (is_lpat h) true good.0 refl,
+        pat_is l ∙ and_from (is_lpat h) true good.0 refl,
         subst (Within limit) (sym (pat_deep l)) (within_less limit _ (depth_of_lpat h) (omega arith) good.1),
       )
 
@@ -106,7 +107,7 @@ module _ (limit : Option ℕ) where
       let long = length-append xs (x ∷ []) in
       let part : Within limit (depth_of_op x + (length xs + 1)) =
       within_raised limit (depth_of_op x) (length xs + 1) (within_less limit _ _ (omega arith) room) item.1 in (
-        pat_is l' ∙ and_both _ _ (and_left (is_lpat h) _ is) (all_more is_op xs x (and_right (is_lpat h) _ is) item.0),
+        pat_is l' ∙ and_from _ _ (and_left (is_lpat h) _ is) (all_more is_op xs x (and_right (is_lpat h) _ is) item.0),
         subst (Within limit) (sym (pat_deep l'))
             (within_less limit _ (max (max (depth_of_lpat h) (deepest (map depth_of_op xs))) (depth_of_op x) + (length xs + 1)) (omega arith)
             (within_max limit _ _ (length xs + 1) room part)),
@@ -166,7 +167,7 @@ module _ (most limit : Option ℕ) where
       let new = deep_more depth_of_pat xs x in
       let long = length-append xs (x ∷ []) in (
         within_less most _ (length xs + 1) (omega arith) few,
-        and_both _ _ (and_left (is_pat h) _ good.1) (all_more is_pat xs x (and_right (is_pat h) _ good.1) item.0),
+        and_from _ _ (and_left (is_pat h) _ good.1) (all_more is_pat xs x (and_right (is_pat h) _ good.1) item.0),
         within_less limit _ (max (max (depth_of_pat h) (deepest (map depth_of_pat xs))) (depth_of_pat x) + 0) (omega arith)
             (within_max limit _ _ 0 (within_less limit _ _ (omega arith) good.2) (within_less limit _ _ (omega arith) item.1)),
       )
@@ -201,7 +202,7 @@ module _ (most limit : Option ℕ) where
       apart_head = λ h x more k good e. comma_apart k e;
       apart_item = λ h xs x y more k good e. comma_apart k e;
     };
-    first = λ h good. (within_zero most, and_both (is_pat h) true good.0 refl, within_less limit _ (depth_of_pat h) (omega arith) good.1);
+    first = λ h good. (within_zero most, and_from (is_pat h) true good.0 refl, within_less limit _ (depth_of_pat h) (omega arith) good.1);
     more = pats_more;
     full = pats_full;
   }

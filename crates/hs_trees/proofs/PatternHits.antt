@@ -1,7 +1,7 @@
 -- No pattern before `<-` goes past a token that stands behind a guard.
 use Rattle.std.proofs.Common.{◌≡◌, ℕ, zero, suc, true, false, List, [], ◌∷◌, ◌++◌, refl, sym, ap, ◌∙◌, subst, append_assoc, true≢false}
 use Rattle.std.specs.Prelude.{flat_map, map, replicate, not}
-use Rattle.hs_trees.specs.Reading.{begins}
+use Rattle.hs_forms.specs.Reading.{begins}
 use Rattle.hs_trees.specs.Hits.{hits, Passes, follows_guard}
 use Rattle.hs_trees.specs.Patterns.{Ts, between_commas, var_tokens, gcon_tokens, qconop_tokens, literal_token, apat_tokens, lpat_tokens, op_tokens, pat_tokens, spelling_apat, spelling_lpat, spelling_op, spelling_pat}
 use Rattle.hs_tokens.specs.declared.terminal.Terminal.TheVariants as t

@@ -3,21 +3,23 @@ use Rattle.std.proofs.Common.{◌≡◌, ℕ, true, false, List, [], ◌∷◌, 
 use Rattle.std.specs.Prelude.{◌&&◌, ◌||◌, Option, Some, None}
 use Rattle.std.proofs.lemmas.Slice.Eq.{bytes_eq-Decides}
 use Rattle.std.proofs.lemmas.List.Folds.{flat_map-map}
-use Rattle.hs_trees.specs.Reading.{SameStart, begins, Reads, Refuses}
-use Rattle.hs_trees.specs.Answers.{Within, Accepts, Rejects, Fails}
+use Rattle.hs_forms.specs.Reading.{SameStart, begins, Reads, Refuses}
+use Rattle.hs_forms.specs.Limits.{Within}
+use Rattle.hs_forms.specs.Answers.{Accepts, Rejects, Fails}
 use Rattle.hs_tokens.specs.Terminals.{is_at, is_integer, is_minus, minus}
 use Rattle.hs_trees.specs.Patterns.{Ts, gcon_tokens, spelling_apat, spelling_lpat, is_gcon, is_apat, is_lpat, depth_of_apat, depth_of_lpat, starts_apat, APats, spelling_apats, depth_of_apats, are_apats, apat_form, apats_form, lpat_form}
 use Rattle.hs_tokens.specs.declared.terminal.Terminal.{Terminal}
 use Rattle.hs_tokens.specs.declared.terminal.Terminal.TheVariants as t
-use Rattle.hs_trees.specs.declared.fault.Fault.{Fault}
+use Rattle.hs_forms.specs.declared.fault.Fault.{Fault}
 use Rattle.hs_trees.specs.declared.patterns.GConTree.{GConTree}
 use Rattle.hs_trees.specs.declared.patterns.LPatTree.{LPatTree, LPatTree-F, out-LPatTree, roll-LPatTree, roll-out-LPatTree}
 use Rattle.hs_trees.specs.declared.patterns.LPatTree.TheVariants as lp
 use Rattle.hs_trees.specs.declared.patterns.APatTree.{APatTree, APatTree-F, fold-APatTree, fold-roll-APatTree}
 use Rattle.hs_trees.specs.declared.patterns.APatTree.TheVariants as a
-use Rattle.hs_trees.proofs.Forms.{begins_append, begins_same, begins_within, same_start_append}
-use Rattle.hs_trees.proofs.Limits.{within_zero, and_left, and_right, and_both, or_left, or_right}
-use Rattle.hs_trees.proofs.Chains.{fails_after}
+use Rattle.hs_forms.proofs.FormLemmas.{begins_append, begins_same, begins_within, same_start_append}
+use Rattle.std.proofs.lemmas.Bool.{and_from}
+use Rattle.hs_forms.proofs.LimitLemmas.{within_zero, and_left, and_right, or_left, or_right}
+use Rattle.hs_forms.proofs.StateLemmas.{fails_after}
 use Rattle.hs_trees.proofs.PatternLayers.{LLayer, apat_starts, lpat_spelled, lpat_is, lpat_deep}
 use Rattle.hs_trees.proofs.PatternCases.{con_spelled, con_is}
 use Rattle.hs_trees.proofs.PatternAtoms.{con_good, clash}
@@ -228,7 +230,7 @@ module _ (limit : Option ℕ) where
   pub applied_read : (c : GConTree) (here : Ts) (p : APats) (rest : Ts) → Reads (apat_form limit) (a.Con c) here → here ≡ spelling_apats p ++ rest →
       Reads (apats_form limit) p rest → is_gcon c ≡ true → Reads (lpat_form limit) (lp.Apply c p.0 p.1) rest
   applied_read c here p rest r at q is = record {
-    good = (apply_is c p ∙ and_both _ _ is q.good.0, subst (Within limit) (sym (apply_deep c p)) q.good.1);
+    good = (apply_is c p ∙ and_from _ _ is q.good.0, subst (Within limit) (sym (apply_deep c p)) q.good.1);
     only = λ s other after same good quiet e.
         decide s other after same good quiet
         (lpat_cases other (spelling_apat (a.Con c) ++ (spelling_apats p ++ s)) after good.0
@@ -271,7 +273,7 @@ module _ (limit : Option ℕ) where
     begun = (
       q.begun.0,
       lp.Apply c q.begun.1.0 q.begun.1.1,
-      (apply_is c q.begun.1 ∙ and_both _ _ is q.begun.2.0, subst (Within limit) (sym (apply_deep c q.begun.1)) q.begun.2.1),
+      (apply_is c q.begun.1 ∙ and_from _ _ is q.begun.2.0, subst (Within limit) (sym (apply_deep c q.begun.1)) q.begun.2.1),
       append_assoc (spelling_apat (a.Con c)) before q.begun.0 ∙ ap (λ l. spelling_apat (a.Con c) ++ l) q.begun.3
           ∙ ap (λ l. l ++ spelling_apats q.begun.1) (con_spelled c) ∙ sym (apply_spelled c q.begun.1),
     );

@@ -2,8 +2,8 @@
 use Rattle.std.proofs.Common.{◌≡◌, ℕ, ◌+◌, Bool, true, [], ◌∷◌, ◌++◌, length, refl, sym, ap, ◌∙◌, subst, true≢false}
 use Rattle.std.specs.Prelude.{flat_map, map, max, ◌&&◌}
 use Rattle.std.proofs.lemmas.List.Folds.{flat_map-map}
-use Rattle.hs_trees.specs.Reading.{begins}
-use Rattle.hs_trees.specs.Answers.{deepest, all_of}
+use Rattle.hs_forms.specs.Reading.{begins}
+use Rattle.hs_forms.specs.Limits.{deepest, all_of}
 use Rattle.hs_tokens.specs.Terminals.{starts_qconop}
 use Rattle.hs_trees.specs.Patterns.{Ts, var_tokens, gcon_tokens, literal_token, qconop_tokens, apat_tokens, lpat_tokens, op_tokens, pat_tokens, spelling_apat, spelling_lpat, spelling_op, spelling_pat, apat_formed, lpat_formed, op_formed, pat_formed, is_apat, is_lpat, is_op, is_pat, apat_depth, lpat_depth, op_depth, pat_depth, depth_of_apat, depth_of_lpat, depth_of_op, depth_of_pat, starts_apat, starts_pat}
 use Rattle.hs_tokens.specs.declared.terminal.Terminal.TheVariants as t
@@ -19,7 +19,7 @@ use Rattle.hs_trees.specs.declared.patterns.PatTree.{PatTree, PatTree-F, out-Pat
 use Rattle.hs_trees.specs.declared.patterns.OpLPat.{OpLPat, OpLPat-F, out-OpLPat, roll-OpLPat, roll-out-OpLPat, fold-roll-OpLPat}
 use Rattle.hs_trees.specs.declared.patterns.LPatTree.{LPatTree, LPatTree-F, out-LPatTree, roll-LPatTree, roll-out-LPatTree, fold-roll-LPatTree, map-LPatTree}
 use Rattle.hs_trees.specs.declared.patterns.APatTree.{APatTree, APatTree-F, out-APatTree, roll-APatTree, roll-out-APatTree, fold-roll-APatTree, map-APatTree}
-use Rattle.hs_trees.proofs.Forms.{begins_append}
+use Rattle.hs_forms.proofs.FormLemmas.{begins_append}
 use Rattle.hs_trees.proofs.TypeLayers.{length_of_map}
 
 abbrev pub ALayer : Type 0

@@ -1,13 +1,15 @@
 -- The loops of the readers of patterns, over plain variables.
 use Rattle.std.proofs.Common.{◌≡◌, ℕ, ◌+◌, ◌<◌, Bool, true, false, List, [], ◌∷◌, ◌++◌, length, refl, sym, ap, ◌∙◌, subst, append_assoc, true≢false, arith, length-append}
 use Rattle.std.specs.Prelude.{map, max, not, ◌||◌, Option}
-use Rattle.hs_trees.specs.Reading.{Form, begins, Reads, Refuses}
-use Rattle.hs_trees.specs.Answers.{Within, lowered, deepest, Accepts, Rejects, Fails}
+use Rattle.hs_forms.specs.Reading.{Form, begins, Reads, Refuses}
+use Rattle.hs_forms.specs.Limits.{Within, lowered, deepest}
+use Rattle.hs_forms.specs.Answers.{Accepts, Rejects, Fails}
 use Rattle.hs_tokens.specs.Terminals.{is_at, is_comma, is_con, is_backquote, is_minus, starts_qconop}
+use Rattle.hs_trees.specs.Types.{starts_tuple_name}
 use Rattle.hs_trees.specs.Patterns.{Ts, qconop_tokens, spelling_lpat, spelling_op, is_lpat, depth_of_apat, depth_of_lpat, depth_of_op, depth_of_pat, starts_apat, starts_lpat, starts_pat, opens_name, opens_pat, depth_of_apats, depth_of_pats, apat_form, apats_form, lpat_form, pat_form, pats_form, qconop_form}
 use Rattle.hs_tokens.specs.declared.terminal.Terminal.{Terminal}
 use Rattle.hs_tokens.specs.declared.terminal.Terminal.TheVariants as t
-use Rattle.hs_trees.specs.declared.fault.Fault.{Fault}
+use Rattle.hs_forms.specs.declared.fault.Fault.{Fault}
 use Rattle.hs_trees.specs.declared.patterns.QConOpTree.{QConOpTree}
 use Rattle.hs_trees.specs.declared.patterns.QConOpTree.TheVariants as o
 use Rattle.hs_trees.specs.declared.patterns.APatTree.{APatTree}
@@ -15,21 +17,15 @@ use Rattle.hs_trees.specs.declared.patterns.LPatTree.{LPatTree, LPatTree-F}
 use Rattle.hs_trees.specs.declared.patterns.LPatTree.TheVariants as lp
 use Rattle.hs_trees.specs.declared.patterns.OpLPat.{OpLPat, out-OpLPat, roll-OpLPat, roll-out-OpLPat}
 use Rattle.hs_trees.specs.declared.patterns.PatTree.{PatTree}
-use Rattle.hs_trees.proofs.Forms.{item_form, behind, reads_behind, refuses_behind, begins_same, pair, reads_pair, pair_first, pair_second}
-use Rattle.hs_trees.proofs.Limits.{within_zero}
-use Rattle.hs_trees.proofs.Chains.{State, state_first, state_step, state_stop, state_head_fails, state_fails, state_over, fails_after}
-use Rattle.hs_trees.proofs.Narrow.{none_refused, Onto, reads_onto, refuses_onto}
+use Rattle.hs_forms.specs.Forms.{item_form, behind, pair}
+use Rattle.hs_forms.proofs.FormLemmas.{reads_behind, refuses_behind, begins_same, reads_pair, completes_pair, pair_first, pair_second}
+use Rattle.hs_forms.proofs.LimitLemmas.{within_zero}
+use Rattle.hs_forms.proofs.StateLemmas.{fails_after}
+use Rattle.hs_forms.proofs.VariantLemmas.{none_refused}
+use Rattle.hs_forms.specs.Productions.{Onto}
+use Rattle.hs_forms.proofs.UnionLemmas.{reads_onto, refuses_onto}
 use Rattle.hs_trees.proofs.PatternLayers.{PLayer, OLayer, qconop_starts, lpat_starts, lpat_is, lpat_deep, op_spelled, op_is, op_deep, pat_deep}
 use Rattle.hs_trees.proofs.PatternChains.{make_pat, apats_chain, pat_chain, pats_chain, pat_item}
-
-abbrev pub ApatsState : Option ℕ → Ts → APatTree → List APatTree → Ts → ℕ → Type 0
-ApatsState limit = State (apats_chain limit)
-
-abbrev pub PatState : Option ℕ → Ts → LPatTree → List OpLPat → Ts → ℕ → Type 0
-PatState limit = State (pat_chain limit)
-
-abbrev pub PatsState : Option ℕ → Option ℕ → Ts → PatTree → List PatTree → Ts → ℕ → Type 0
-PatsState most limit = State (pats_chain most limit)
 
 abbrev pub make_op : QConOpTree → LPatTree → OpLPat
 make_op op x = roll-OpLPat (record { op = op; pat = x })
@@ -158,126 +154,46 @@ module _ (limit : Option ℕ) where
       Reads (lpat_form (lowered limit (n + 1))) x rest → Reads (item_at n) (make_op op x) rest
   item_reads n op next x rest r at q =
       reads_onto (both_at n) (item_at n) make_item (item_onto n) (op, x) rest
-      (reads_pair qconop_form (lpat_form (lowered limit (n + 1))) (λ x y. Unit {0}) starts_lpat lpat_begins (λ x k h. refl) op next x rest r at q tt)
+      (reads_pair qconop_form (lpat_form (lowered limit (n + 1))) (λ x y. Unit {0}) starts_lpat lpat_begins (λ x y k fits h. refl) op next x rest r at q tt)
 
   op_refused : (n : ℕ) (before bad : Ts) → Refuses qconop_form before bad → Refuses (item_at n) before bad
   op_refused n before bad r =
       refuses_onto (both_at n) (item_at n) make_item (item_onto n) before bad
-      (pair_first qconop_form (lpat_form (lowered limit (n + 1))) (λ x y. Unit {0}) starts_lpat lpat_begins (λ x k h. refl) before bad r
-      (lp.Negative []) (λ x good. (least_good (n + 1), tt)))
+      (pair_first qconop_form (lpat_form (lowered limit (n + 1))) (λ x y. Unit {0}) starts_lpat lpat_begins
+      (λ x y k fits h. refl)
+      (completes_pair qconop_form (lpat_form (lowered limit (n + 1))) (λ x y. Unit {0}) starts_lpat lpat_begins
+      (λ x y k fits h. refl) (lp.Negative []) (λ x good. (least_good (n + 1), tt))) before bad r)
 
   operand_refused : (n : ℕ) (op : QConOpTree) (next before bad : Ts) → Reads qconop_form op next → next ≡ before ++ bad →
       Refuses (lpat_form (lowered limit (n + 1))) before bad → Refuses (item_at n) (qconop_tokens op ++ before) bad
   operand_refused n op next before bad r at q =
       refuses_onto (both_at n) (item_at n) make_item (item_onto n) (qconop_tokens op ++ before) bad
-      (pair_second qconop_form (lpat_form (lowered limit (n + 1))) (λ x y. Unit {0}) starts_lpat lpat_begins (λ x k h. refl) op next before bad r at q (λ u g. tt))
+      (pair_second qconop_form (lpat_form (lowered limit (n + 1))) (λ x y. Unit {0}) starts_lpat lpat_begins (λ x y k fits h. refl) op next before bad r at q (λ u g. tt))
 
-  -- pat
-  pub pat_head_fails : (ts : Ts) (e : Fault) → Fails (lpat_form limit) ts e → Fails (pat_form limit) ts e
-  pat_head_fails ts e r = state_head_fails (pat_chain limit) ts e r
+  -- an operator and an `lpat`, of a chain with so many before it
+  pub op_fails : (n : ℕ) (here : Ts) (e : Fault) → Fails qconop_form here e → Fails (item_at n) here e
+  op_fails n here e r = fails_after (item_at n) qconop_form [] here here e refl (λ before bad split q. op_refused n before bad q) r
 
-  pub pat_first : (ts : Ts) (h : LPatTree) (rest : Ts) (d : ℕ) → Accepts (lpat_form limit) depth_of_lpat ts h rest d → PatState limit ts h [] rest d
-  pat_first ts h rest d acc = state_first (pat_chain limit) ts h rest d acc
+  pub operand_fails : (n : ℕ) (here : Ts) (op : QConOpTree) (next : Ts) (d : ℕ) (b : Option ℕ) (e : Fault) →
+      Accepts qconop_form (λ x. 0) here op next d → b ≡ lowered limit (n + 1) → Fails (lpat_form b) next e → Fails (item_at n) here e
+  operand_fails n here op next d b e acc same r =
+      fails_after (item_at n) (lpat_form (lowered limit (n + 1))) (qconop_tokens op) here next e acc.spelled
+      (λ before bad split q. operand_refused n op next before bad acc.reads split q)
+      (subst (λ l. Fails (lpat_form l) next e) same r)
 
-  room_at : (ts : Ts) (h : LPatTree) (xs : List OpLPat) (here : Ts) (d : ℕ) → PatState limit ts h xs here d →
-      Within limit (d + (length xs + 1)) → Within limit (max (depth_of_lpat h) (deepest (map depth_of_op xs)) + (length xs + 1))
-  room_at ts h xs here d s within = subst (λ n. Within limit (n + (length xs + 1))) s.deep_is within
-
-  pub pat_over : (ts : Ts) (h : LPatTree) (xs : List OpLPat) (here : Ts) (d : ℕ) → PatState limit ts h xs here d → begins starts_qconop here ≡ true →
-      (Within limit (d + (length xs + 1)) → ⊥) → Rejects (pat_form limit) ts (length here)
-  pat_over ts h xs here d s starts over =
-      state_over (pat_chain limit) ts h xs here d s starts (λ room. over (subst (λ n. Within limit (n + (length xs + 1))) (sym s.deep_is) room))
-
-  pub pat_op_fails : (ts : Ts) (h : LPatTree) (xs : List OpLPat) (here : Ts) (d : ℕ) (e : Fault) → PatState limit ts h xs here d →
-      begins starts_qconop here ≡ true → Within limit (d + (length xs + 1)) → Fails qconop_form here e → Fails (pat_form limit) ts e
-  pat_op_fails ts h xs here d e s starts within r =
-      state_fails (pat_chain limit) ts h xs here d e s starts (room_at ts h xs here d s within)
-      (fails_after (item_at (length xs)) qconop_form [] here here e refl (λ before bad split q. op_refused (length xs) before bad q) r)
-
-  pub pat_fails : (ts : Ts) (h : LPatTree) (xs : List OpLPat) (here : Ts) (d : ℕ) (op : QConOpTree) (next : Ts) (b : Option ℕ) (e : Fault) →
-      PatState limit ts h xs here d → begins starts_qconop here ≡ true → Within limit (d + (length xs + 1)) → Accepts qconop_form (λ x. 0) here op next 0 →
-      b ≡ lowered limit (length xs + 1) → Fails (lpat_form b) next e → Fails (pat_form limit) ts e
-  pat_fails ts h xs here d op next b e s starts within acc same r =
-      state_fails (pat_chain limit) ts h xs here d e s starts (room_at ts h xs here d s within)
-      (fails_after (item_at (length xs)) (lpat_form (lowered limit (length xs + 1))) (qconop_tokens op) here next e acc.spelled
-      (λ before bad split q. operand_refused (length xs) op next before bad acc.reads split q)
-      (subst (λ l. Fails (lpat_form l) next e) same r))
-
-  pub pat_step : (ts : Ts) (h : LPatTree) (xs : List OpLPat) (here : Ts) (d : ℕ) (op : QConOpTree) (next : Ts) (b : Option ℕ) (x : LPatTree) (rest : Ts) (e : ℕ) →
-      PatState limit ts h xs here d → Within limit (d + (length xs + 1)) → Accepts qconop_form (λ x. 0) here op next 0 →
-      b ≡ lowered limit (length xs + 1) → Accepts (lpat_form b) depth_of_lpat next x rest e → PatState limit ts h (xs ++ make_op op x ∷ []) rest (max d e)
-  pat_step ts h xs here d op next b x rest e s within acc same part =
+  pub item_ok : (n : ℕ) (here : Ts) (op : QConOpTree) (next : Ts) (d : ℕ) (b : Option ℕ) (x : LPatTree) (rest : Ts) (e : ℕ) →
+      Accepts qconop_form (λ x. 0) here op next d → b ≡ lowered limit (n + 1) → Accepts (lpat_form b) depth_of_lpat next x rest e →
+      Accepts (item_at n) depth_of_op here (make_op op x) rest e
+  item_ok n here op next d b x rest e acc same part =
       let part' = subst (λ l. Accepts (lpat_form l) depth_of_lpat next x rest e) same part in
       let layer : OLayer = record { op = op; pat = x } in
-      let item : Accepts (item_at (length xs)) depth_of_op here (make_op op x) rest e = record {
+      record {
         spelled = acc.spelled ∙ ap (λ l. qconop_tokens op ++ l) part'.spelled ∙ sym (append_assoc (qconop_tokens op) (spelling_lpat x) rest)
             ∙ ap (λ l. l ++ rest) (sym (op_spelled layer));
-        reads = item_reads (length xs) op next x rest acc.reads part'.spelled part'.reads;
+        reads = item_reads n op next x rest acc.reads part'.spelled part'.reads;
         measured_is = part'.measured_is ∙ sym (op_deep layer);
         room = omega (arith, acc.room, part'.room);
-      } in
-      state_step (pat_chain limit) ts h xs here d (make_op op x) rest e s (room_at ts h xs here d s within) item
-
-  pub pat_stop : (ts : Ts) (h : LPatTree) (xs : List OpLPat) (here : Ts) (d : ℕ) → PatState limit ts h xs here d → begins starts_qconop here ≡ false →
-      Accepts (pat_form limit) depth_of_pat ts (make_pat h xs) here (d + length xs)
-  pat_stop ts h xs here d s ends =
-      let x : PLayer = record { first = h; rest = xs } in
-      state_stop (pat_chain limit) depth_of_pat ts h xs here d (d + length xs) s ends (ap (λ n. n + length xs) s.deep_is ∙ sym (pat_deep x))
-      (omega (arith, s.room))
-
-  -- apat {apat}
-  pub apats_head_fails : (ts : Ts) (e : Fault) → Fails (apat_form limit) ts e → Fails (apats_form limit) ts e
-  apats_head_fails ts e r = state_head_fails (apats_chain limit) ts e r
-
-  pub apats_first : (ts : Ts) (h : APatTree) (rest : Ts) (d : ℕ) → Accepts (apat_form limit) depth_of_apat ts h rest d → ApatsState limit ts h [] rest d
-  apats_first ts h rest d acc = state_first (apats_chain limit) ts h rest d acc
-
-  pub apats_step : (ts : Ts) (h : APatTree) (xs : List APatTree) (here : Ts) (d : ℕ) (x : APatTree) (rest : Ts) (e : ℕ) → ApatsState limit ts h xs here d →
-      Accepts (apat_form limit) depth_of_apat here x rest e → ApatsState limit ts h (xs ++ x ∷ []) rest (max d e)
-  apats_step ts h xs here d x rest e s acc = state_step (apats_chain limit) ts h xs here d x rest e s tt acc
-
-  pub apats_fails : (ts : Ts) (h : APatTree) (xs : List APatTree) (here : Ts) (d : ℕ) (e : Fault) → ApatsState limit ts h xs here d →
-      begins starts_apat here ≡ true → Fails (apat_form limit) here e → Fails (apats_form limit) ts e
-  apats_fails ts h xs here d e s starts r = state_fails (apats_chain limit) ts h xs here d e s starts tt r
-
-  pub apats_stop : (ts : Ts) (h : APatTree) (xs : List APatTree) (here : Ts) (d : ℕ) → ApatsState limit ts h xs here d → begins starts_apat here ≡ false →
-      Accepts (apats_form limit) depth_of_apats ts (h, xs) here d
-  apats_stop ts h xs here d s ends = state_stop (apats_chain limit) depth_of_apats ts h xs here d d s ends s.deep_is (omega (arith, s.room))
-
-module _ (most limit : Option ℕ) where
-  -- pat {"," pat}
-  pub pats_head_fails : (ts : Ts) (e : Fault) → Fails (pat_form limit) ts e → Fails (pats_form most limit) ts e
-  pats_head_fails ts e r = state_head_fails (pats_chain most limit) ts e r
-
-  pub pats_first : (ts : Ts) (h : PatTree) (rest : Ts) (d : ℕ) → Accepts (pat_form limit) depth_of_pat ts h rest d → PatsState most limit ts h [] rest d
-  pats_first ts h rest d acc = state_first (pats_chain most limit) ts h rest d acc
-
-  pub pats_step : (ts : Ts) (h : PatTree) (xs : List PatTree) (here next : Ts) (d : ℕ) (x : PatTree) (rest : Ts) (e : ℕ) → PatsState most limit ts h xs here d →
-      here ≡ t.Comma ∷ next → Within most (length xs + 1) → Accepts (pat_form limit) depth_of_pat next x rest e →
-      PatsState most limit ts h (xs ++ x ∷ []) rest (max d e)
-  pats_step ts h xs here next d x rest e s at few acc =
-      let item : Accepts (behind t.Comma (pat_form limit)) depth_of_pat here x rest e = record {
-        spelled = at ∙ ap (λ l. t.Comma ∷ l) acc.spelled;
-        reads = reads_behind t.Comma (pat_form limit) x rest acc.reads;
-        measured_is = acc.measured_is;
-        room = omega (arith, acc.room, ap length at);
-      } in
-      state_step (pats_chain most limit) ts h xs here d x rest e s few item
-
-  pub pats_fails : (ts : Ts) (h : PatTree) (xs : List PatTree) (here next : Ts) (d : ℕ) (e : Fault) → PatsState most limit ts h xs here d →
-      here ≡ t.Comma ∷ next → Within most (length xs + 1) → Fails (pat_form limit) next e → Fails (pats_form most limit) ts e
-  pats_fails ts h xs here next d e s at few r =
-      state_fails (pats_chain most limit) ts h xs here d e s (ap (begins is_comma) at) few
-      (fails_after (behind t.Comma (pat_form limit)) (pat_form limit) (t.Comma ∷ []) here next e at
-      (λ before bad split q. refuses_behind t.Comma (pat_form limit) before bad q) r)
-
-  pub pats_over : (ts : Ts) (h : PatTree) (xs : List PatTree) (here next : Ts) (d : ℕ) → PatsState most limit ts h xs here d → here ≡ t.Comma ∷ next →
-      (Within most (length xs + 1) → ⊥) → Rejects (pats_form most limit) ts (length here)
-  pats_over ts h xs here next d s at over = state_over (pats_chain most limit) ts h xs here d s (ap (begins is_comma) at) over
-
-  pub pats_stop : (ts : Ts) (h : PatTree) (xs : List PatTree) (here : Ts) (d : ℕ) → PatsState most limit ts h xs here d → begins is_comma here ≡ false →
-      Accepts (pats_form most limit) depth_of_pats ts (h, xs) here d
-  pats_stop ts h xs here d s ends = state_stop (pats_chain most limit) depth_of_pats ts h xs here d d s ends s.deep_is (omega (arith, s.room))
+      }
 
 -- what stands at no production's begin
 pub no_apat : (x : Terminal) → ((n : List ℕ) → x ≡ t.Var n → ⊥) → ((n : List ℕ) → x ≡ t.Con n → ⊥) → (x ≡ t.Underscore → ⊥) → ((n : List ℕ) → x ≡ t.Integer n → ⊥) →
@@ -294,14 +210,14 @@ no_apat t.LeftBracket a b c d e f g h i = absurd (h refl)
 no_apat t.Tilde a b c d e f g h i = absurd (i refl)
 no_apat _ a b c d e f g h i = refl
 
-pub no_opening : (x : Terminal) → (x ≡ t.RightParen → ⊥) → (x ≡ t.Comma → ⊥) → ((n : List ℕ) → x ≡ t.ConSym n → ⊥) → (x ≡ t.Colon → ⊥) →
+pub no_opening : (x : Terminal) → starts_tuple_name x ≡ false → ((n : List ℕ) → x ≡ t.ConSym n → ⊥) → (x ≡ t.Colon → ⊥) →
     ((n : List ℕ) → x ≡ t.VarSym n → ⊥) → opens_name x ≡ false
-no_opening t.RightParen a b c d e = absurd (a refl)
-no_opening t.Comma a b c d e = absurd (b refl)
-no_opening (t.ConSym n) a b c d e = absurd (c n refl)
-no_opening t.Colon a b c d e = absurd (d refl)
-no_opening (t.VarSym n) a b c d e = absurd (e n refl)
-no_opening _ a b c d e = refl
+no_opening t.RightParen a c d e = absurd (true≢false a)
+no_opening t.Comma a c d e = absurd (true≢false a)
+no_opening (t.ConSym n) a c d e = absurd (c n refl)
+no_opening t.Colon a c d e = absurd (d refl)
+no_opening (t.VarSym n) a c d e = absurd (e n refl)
+no_opening _ a c d e = refl
 
 pub no_qconop : (x : Terminal) → ((n : List ℕ) → x ≡ t.ConSym n → ⊥) → (x ≡ t.Colon → ⊥) → (x ≡ t.Backquote → ⊥) → starts_qconop x ≡ false
 no_qconop (t.ConSym n) a b c = absurd (a n refl)

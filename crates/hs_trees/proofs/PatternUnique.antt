@@ -1,11 +1,13 @@
 -- At most one pattern is spelled by a list of tokens, whatever its depth.
-use Rattle.std.proofs.Common.{◌≡◌, ℕ, zero, suc, ◌+◌, ◌<◌, ◌≤◌, true, false, List, [], ◌∷◌, ◌++◌, length, refl, sym, ap, ◌∙◌, subst, arith, length-append, le_refl}
+use Rattle.std.proofs.Common.{◌≡◌, ℕ, zero, suc, ◌+◌, ◌<◌, ◌≤◌, true, false, List, [], ◌∷◌, ◌++◌, length, refl, sym, ap, ◌∙◌, subst, arith, length-append, le_refl, true≢false}
 use Rattle.std.specs.Prelude.{flat_map, replicate, ◌||◌, nat_lt, Option, Some, None}
 use Rattle.std.proofs.lemmas.Bool.Decides.{nat_tests}
-use Rattle.hs_trees.specs.Reading.{begins, Reads}
-use Rattle.hs_trees.specs.Answers.{Within}
-use Rattle.hs_trees.specs.Whole.{Spells}
-use Rattle.hs_tokens.specs.Terminals.{is_at, is_comma, starts_qconop, minus}
+use Rattle.hs_forms.specs.Reading.{begins, Reads}
+use Rattle.hs_forms.specs.Limits.{Within}
+use Rattle.hs_forms.specs.Answers.{Accepts}
+use Rattle.hs_trees.specs.Types.{tuple_name_form}
+use Rattle.hs_forms.specs.Whole.{Spells}
+use Rattle.hs_tokens.specs.Terminals.{is_at, is_comma, is_right_paren, starts_qconop, minus}
 use Rattle.hs_trees.specs.Patterns.{Ts, gcon_tokens, qconop_tokens, var_tokens, literal_token, spelling_apat, spelling_lpat, spelling_op, spelling_pat, is_gcon, is_apat, is_lpat, is_op, is_pat, starts_apat, APats, spelling_apats, are_apats, Pats, spelling_pats, apat_form, apats_form, lpat_form, pat_form, pats_form}
 use Rattle.hs_tokens.specs.declared.terminal.Terminal.TheVariants as t
 use Rattle.hs_trees.specs.declared.patterns.GConTree.{GConTree}
@@ -16,14 +18,17 @@ use Rattle.hs_trees.specs.declared.patterns.LPatTree.{LPatTree, LPatTree-F, out-
 use Rattle.hs_trees.specs.declared.patterns.LPatTree.TheVariants as lp
 use Rattle.hs_trees.specs.declared.patterns.OpLPat.{OpLPat, out-OpLPat, roll-out-OpLPat}
 use Rattle.hs_trees.specs.declared.patterns.PatTree.{PatTree, out-PatTree, roll-PatTree, roll-out-PatTree}
-use Rattle.hs_trees.proofs.Forms.{item_form, begins_within, reads_behind, reads_closed}
-use Rattle.hs_trees.proofs.Limits.{and_left, and_right, and_both, within_less, or_left, or_right}
-use Rattle.hs_trees.proofs.Readable.{chain_all, all_less, part_length, some_length}
-use Rattle.hs_trees.proofs.Narrow.{lead_reads}
-use Rattle.hs_trees.proofs.Commas.{name_ok}
+use Rattle.hs_forms.specs.Forms.{item_form}
+use Rattle.hs_forms.proofs.FormLemmas.{begins_within, reads_behind, reads_closed}
+use Rattle.std.proofs.lemmas.Bool.{and_from}
+use Rattle.hs_forms.proofs.LimitLemmas.{and_left, and_right, within_less, or_left, or_right}
+use Rattle.hs_forms.proofs.WholeChainLemmas.{chain_all, all_less, part_length}
+use Rattle.hs_forms.proofs.WholeChainLemmas.{begins_length}
+use Rattle.hs_forms.proofs.VariantLemmas.{lead_reads}
+use Rattle.hs_forms.proofs.CommaLemmas.{commas_ok}
 use Rattle.hs_trees.proofs.PatternLayers.{ALayer, LLayer, PLayer, apat_starts, op_spelled, op_is, pat_spelled, pat_is}
 use Rattle.hs_trees.proofs.PatternCases.{are_pats, parts_spelled, parts_are, list_spelled, list_are, as_spelled, as_is, lazy_spelled, lazy_is, con_is}
-use Rattle.hs_trees.proofs.PatternAtoms.{var_read, as_leads, lazy_leads, wild_ok, con_ok, literal_ok, unit_ok, sym_ok, colon_ok, tuple_ok}
+use Rattle.hs_trees.proofs.PatternAtoms.{var_read, as_leads, lazy_leads, wild_ok, con_ok, literal_ok, sym_ok, colon_ok, tuple_ok}
 use Rattle.hs_trees.proofs.PatternBrackets.{parts_read, list_read, nil_ok}
 use Rattle.hs_trees.proofs.PatternChains.{make_pat, comma_pats, apats_chain, pat_chain, pats_chain}
 use Rattle.hs_trees.proofs.PatternLPats.{minus_ok, alone_read, applied_read, apply_spelled, apply_is, alone_spelled, alone_is}
@@ -31,32 +36,36 @@ use Rattle.hs_trees.proofs.PatternReturns.{qconop_ok, item_reads}
 
 -- a front of a chain is one
 apats_less : (h : APatTree) (ys zs : List APatTree) → (apats_form None).Good (h, ys ++ zs) → (apats_form None).Good (h, ys)
-apats_less h ys zs good = (and_both _ _ (and_left (is_apat h) _ good.0) (all_less is_apat ys zs (and_right (is_apat h) _ good.0)), tt)
+apats_less h ys zs good = (and_from _ _ (and_left (is_apat h) _ good.0) (all_less is_apat ys zs (and_right (is_apat h) _ good.0)), tt)
 
 pat_less : (h : LPatTree) (ys zs : List OpLPat) → (pat_form None).Good (make_pat h (ys ++ zs)) → (pat_form None).Good (make_pat h ys)
 pat_less h ys zs good =
     let m : PLayer = record { first = h; rest = ys ++ zs } in
     let k : PLayer = record { first = h; rest = ys } in
     let both = sym (pat_is m) ∙ good.0 in
-    (pat_is k ∙ and_both _ _ (and_left (is_lpat h) _ both) (all_less is_op ys zs (and_right (is_lpat h) _ both)), tt)
+    (pat_is k ∙ and_from _ _ (and_left (is_lpat h) _ both) (all_less is_op ys zs (and_right (is_lpat h) _ both)), tt)
 
 pats_less : (most : Option ℕ) (h : PatTree) (ys zs : List PatTree) → (pats_form most None).Good (h, ys ++ zs) → (pats_form most None).Good (h, ys)
 pats_less most h ys zs good =
     let long = length-append ys zs in (
       within_less most (length ys) (length (ys ++ zs)) (omega arith) good.0,
-      and_both _ _ (and_left (is_pat h) _ good.1) (all_less is_pat ys zs (and_right (is_pat h) _ good.1)),
+      and_from _ _ (and_left (is_pat h) _ good.1) (all_less is_pat ys zs (and_right (is_pat h) _ good.1)),
       tt,
     )
 
+name_at : (n : ℕ) (rest : Ts) → n < 15 → Accepts tuple_name_form (λ n. 0) (replicate n t.Comma ++ (t.RightParen ∷ rest)) n rest 0
+name_at n rest most =
+    commas_ok t.Comma t.RightParen is_comma is_right_paren refl refl refl 15 (replicate n t.Comma ++ (t.RightParen ∷ rest)) n rest refl most
+
 -- each constructor's name is read, whatever stands behind it
 gcon_read : (c : GConTree) → is_gcon c ≡ true → (rest : Ts) → Reads (apat_form None) (a.Con c) rest
-gcon_read g.Unit is rest = (unit_ok None (t.RightParen ∷ rest) rest refl).reads
+gcon_read g.Unit is rest = (tuple_ok None (t.RightParen ∷ rest) 0 rest 0 (name_at 0 rest (omega arith))).reads
 gcon_read g.List is rest = (nil_ok None (t.RightBracket ∷ rest) rest refl).reads
-gcon_read (g.Tuple n) is rest =
-    let some = and_left (nat_lt 0 n) _ is in
-    let most = and_right (nat_lt 0 n) _ is in
-    (tuple_ok None (replicate n t.Comma ++ (t.RightParen ∷ rest)) n rest
-    (name_ok (replicate n t.Comma ++ (t.RightParen ∷ rest)) n (t.RightParen ∷ rest) rest refl refl (grind (arith, nat_tests)) (grind (arith, nat_tests)))).reads
+gcon_read (g.Tuple zero) is rest = absurd (true≢false (sym is))
+gcon_read (g.Tuple (suc n)) is rest =
+    let most = and_right (nat_lt 0 (suc n)) _ is in
+    (tuple_ok None (replicate (suc n) t.Comma ++ (t.RightParen ∷ rest)) (suc n) rest 0
+    (name_at (suc n) rest (grind (arith, nat_tests)))).reads
 gcon_read (g.Con n) is rest = (con_ok None (t.Con n ∷ rest) n rest refl).reads
 gcon_read (g.Sym n) is rest = (sym_ok None n (t.ConSym n ∷ t.RightParen ∷ rest) (t.RightParen ∷ rest) rest refl refl).reads
 gcon_read g.Colon is rest = (colon_ok None (t.Colon ∷ t.RightParen ∷ rest) (t.RightParen ∷ rest) rest refl refl).reads
@@ -178,7 +187,7 @@ module _ (n : ℕ) (below : Upto n) where
       (below x len (sym (lazy_is x) ∙ ap is_apat (sym (a.rolls-Lazy x)) ∙ is) rest q))
 
 upto : (n : ℕ) → Upto n
-upto zero = λ x short is rest q. absurd (let some = some_length starts_apat (spelling_apat x) (apat_starts x) in omega arith)
+upto zero = λ x short is rest q. absurd (let some = begins_length starts_apat (spelling_apat x) (apat_starts x) in omega arith)
 upto (suc n) =
     λ x. subst (λ o. length (spelling_apat o) ≤ suc n → is_apat o ≡ true → (rest : Ts) → begins is_at rest ≡ false → Reads (apat_form None) o rest)
     (roll-out-APatTree x) (apat_of n (upto n) (out-APatTree x))

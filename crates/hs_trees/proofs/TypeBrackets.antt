@@ -2,19 +2,20 @@
 use Rattle.std.proofs.Common.{◌≡◌, ℕ, zero, suc, ◌<◌, Bool, true, false, List, [], ◌∷◌, ◌++◌, refl, sym, ap, ◌∙◌, subst, true≢false, arith}
 use Rattle.std.specs.Prelude.{replicate, Option}
 use Rattle.std.proofs.lemmas.Bool.Decides.{nat_tests}
-use Rattle.hs_trees.specs.Reading.{Form, SameStart, begins, Reads, Refuses}
-use Rattle.hs_trees.specs.Answers.{Within, lowered}
-use Rattle.hs_trees.specs.Types.{starts_atype, spelling_atype, spelling_type, depth_of_atype, depth_of_type, is_atype, is_type, Parts, spelling_parts, depth_of_parts, are_parts, atype_form, type_form, parts_form, tuple_name_form}
-use Rattle.hs_tokens.specs.Terminals.{is_arrow, is_comma, is_right_paren, is_right_bracket}
+use Rattle.hs_forms.specs.Reading.{Form, SameStart, begins, Reads, Refuses}
+use Rattle.hs_forms.specs.Limits.{Within, lowered}
+use Rattle.hs_trees.specs.Types.{starts_atype, spelling_atype, spelling_type, depth_of_atype, depth_of_type, is_atype, is_type, Parts, spelling_parts, depth_of_parts, are_parts, atype_form, type_form, parts_form, tuple_name_form, named_type, starts_tuple_name}
+use Rattle.hs_tokens.specs.Terminals.{is_arrow, is_right_paren, is_right_bracket}
 use Rattle.hs_tokens.specs.declared.terminal.Terminal.{Terminal}
 use Rattle.hs_tokens.specs.declared.terminal.Terminal.TheVariants as t
 use Rattle.hs_trees.specs.declared.types.ATypeTree.{ATypeTree, ATypeTree-F}
 use Rattle.hs_trees.specs.declared.types.ATypeTree.TheVariants as a
 use Rattle.hs_trees.specs.declared.types.TypeTree.{TypeTree}
-use Rattle.hs_trees.proofs.Forms.{begins_append, begins_same, same_start_append, closed}
-use Rattle.hs_trees.proofs.Limits.{within_less, within_lowered, within_raised, within_zero}
+use Rattle.hs_forms.proofs.FormLemmas.{begins_append, begins_same, same_start_append}
+use Rattle.hs_forms.specs.Forms.{closed}
+use Rattle.hs_forms.proofs.LimitLemmas.{within_less, within_lowered, within_raised, within_zero}
 use Rattle.hs_trees.proofs.TypeLayers.{atype_spelled, atype_deep, atype_is, atype_starts, type_starts}
-use Rattle.hs_trees.proofs.TypeCases.{ParenCase, of_unit, of_arrow, of_tuple, of_parts, paren_cases, BracketCase, of_list_con, of_list, bracket_cases, parts_spelled, parts_deep, parts_are, list_spelled, list_deep, list_is}
+use Rattle.hs_trees.proofs.TypeCases.{ParenCase, of_arrow, of_commas, of_parts, paren_cases, BracketCase, of_list_con, of_list, bracket_cases, parts_spelled, parts_deep, parts_are, list_spelled, list_deep, list_is}
 
 -- the tokens after which a bracket is no round bracket about types
 abbrev pub ends_name : Terminal → Bool
@@ -52,33 +53,35 @@ module _ (limit : Option ℕ) where
         decide s other after same good (bracket_cases other (body ++ s) after good.0 (sym (ap (λ l. l ++ s) spelled) ∙ e));
   }
 
-  -- the names without parts
-  pub unit_spelled : spelling_atype a.Unit ≡ t.LeftParen ∷ t.RightParen ∷ []
-  unit_spelled = ap spelling_atype (sym a.rolls-Unit) ∙ atype_spelled ATypeTree-F.Unit
+  -- the name of the unit or of a tuple
+  pub named_spelled : (n : ℕ) → spelling_atype (named_type n) ≡ t.LeftParen ∷ (replicate n t.Comma ++ t.RightParen ∷ [])
+  named_spelled zero = ap spelling_atype (sym a.rolls-Unit) ∙ atype_spelled ATypeTree-F.Unit
+  named_spelled (suc n) = ap spelling_atype (sym (a.rolls-TupleCon (suc n))) ∙ atype_spelled (ATypeTree-F.TupleCon (suc n))
 
-  pub unit_good : (is_atype a.Unit ≡ true) × Within limit (depth_of_atype a.Unit)
-  unit_good = (
-    ap is_atype (sym a.rolls-Unit) ∙ atype_is ATypeTree-F.Unit,
-    subst (Within limit) (sym (ap depth_of_atype (sym a.rolls-Unit) ∙ atype_deep ATypeTree-F.Unit)) (within_zero limit),
-  )
+  pub named_deep : (n : ℕ) → depth_of_atype (named_type n) ≡ 0
+  named_deep zero = ap depth_of_atype (sym a.rolls-Unit) ∙ atype_deep ATypeTree-F.Unit
+  named_deep (suc n) = ap depth_of_atype (sym (a.rolls-TupleCon (suc n))) ∙ atype_deep (ATypeTree-F.TupleCon (suc n))
 
-  unit_decide : (s : List Terminal) (other : ATypeTree) (after : List Terminal) → ParenCase other (t.RightParen ∷ s) after → (other ≡ a.Unit) × (after ≡ s)
-  unit_decide s other after (of_unit eq e) = (eq, cc)
-  unit_decide s other after (of_arrow eq e) = cc
-  unit_decide s other after (of_tuple zero eq lt most e) = absurd (omega arith)
-  unit_decide s other after (of_tuple (suc n) eq lt most e) = cc
-  unit_decide s other after (of_parts p eq are e) = absurd (not_parts p _ after refl e)
+  named_is : (n : ℕ) → n < 15 → is_atype (named_type n) ≡ true
+  named_is zero most = ap is_atype (sym a.rolls-Unit) ∙ atype_is ATypeTree-F.Unit
+  named_is (suc n) most =
+      ap is_atype (sym (a.rolls-TupleCon (suc n))) ∙ atype_is (ATypeTree-F.TupleCon (suc n)) ∙ grind (arith, nat_tests)
 
-  pub unit_read : (rest : List Terminal) → Reads (atype_form limit) a.Unit rest
-  unit_read rest =
-      paren_read a.Unit (t.RightParen ∷ []) rest unit_spelled unit_good.0 unit_good.1 (λ s other after same good c. unit_decide s other after c)
+  pub named_good : (n : ℕ) → n < 15 → (is_atype (named_type n) ≡ true) × Within limit (depth_of_atype (named_type n))
+  named_good n most = (named_is n most, subst (Within limit) (sym (named_deep n)) (within_zero limit))
+
+  name_first : (n : ℕ) (s : List Terminal) →
+      begins starts_tuple_name ((replicate n t.Comma ++ t.RightParen ∷ []) ++ s) ≡ true
+  name_first zero s = refl
+  name_first (suc n) s = refl
+
+  clash : (f : Terminal → Bool) (xs ys : List Terminal) → begins f xs ≡ true → xs ≡ ys → begins f ys ≡ false → ⊥
+  clash f xs ys h e k = true≢false (sym h ∙ ap (begins f) e ∙ k)
 
   arrow_decide : (s : List Terminal) (other : ATypeTree) (after : List Terminal) → ParenCase other (t.Arrow ∷ t.RightParen ∷ s) after →
       (other ≡ a.ArrowCon) × (after ≡ s)
-  arrow_decide s other after (of_unit eq e) = cc
   arrow_decide s other after (of_arrow eq e) = (eq, cc)
-  arrow_decide s other after (of_tuple zero eq lt most e) = absurd (omega arith)
-  arrow_decide s other after (of_tuple (suc n) eq lt most e) = cc
+  arrow_decide s other after (of_commas n eq most e) = absurd (clash starts_tuple_name _ _ (name_first n after) (sym e) refl)
   arrow_decide s other after (of_parts p eq are e) = absurd (not_parts p _ after refl e)
 
   pub arrow_spelled : spelling_atype a.ArrowCon ≡ t.LeftParen ∷ t.Arrow ∷ t.RightParen ∷ []
@@ -95,48 +98,34 @@ module _ (limit : Option ℕ) where
       paren_read a.ArrowCon (t.Arrow ∷ t.RightParen ∷ []) rest arrow_spelled arrow_good.0 arrow_good.1
       (λ s other after same good c. arrow_decide s other after c)
 
-  pub tuple_spelled : (n : ℕ) → spelling_atype (a.TupleCon n) ≡ t.LeftParen ∷ (replicate n t.Comma ++ t.RightParen ∷ [])
-  tuple_spelled n = ap spelling_atype (sym (a.rolls-TupleCon n)) ∙ atype_spelled (ATypeTree-F.TupleCon n)
+  starts_no_tuple : (xs : List Terminal) → begins starts_atype xs ≡ true → begins starts_tuple_name xs ≡ false
+  starts_no_tuple [] h = refl
+  starts_no_tuple (t.Con x ∷ xs) h = refl
+  starts_no_tuple (t.Comma ∷ xs) h = absurd (true≢false (sym h))
+  starts_no_tuple (t.RightParen ∷ xs) h = absurd (true≢false (sym h))
+  starts_no_tuple (_ ∷ xs) h = refl
 
-  pub tuple_good : (n : ℕ) → (0 < n) × (n < 15) → (is_atype (a.TupleCon n) ≡ true) × Within limit (depth_of_atype (a.TupleCon n))
-  tuple_good n h = (
-    ap is_atype (sym (a.rolls-TupleCon n)) ∙ atype_is (ATypeTree-F.TupleCon n) ∙ grind (arith, nat_tests),
-    subst (Within limit) (sym (ap depth_of_atype (sym (a.rolls-TupleCon n)) ∙ atype_deep (ATypeTree-F.TupleCon n))) (within_zero limit),
-  )
+  parts_no_tuple : (p : Parts) (after : List Terminal) →
+      begins starts_tuple_name ((spelling_parts p ++ t.RightParen ∷ []) ++ after) ≡ false
+  parts_no_tuple p after = starts_no_tuple _ (parts_start p after)
 
-  comma_first : (n : ℕ) (s : List Terminal) → 0 < n → begins is_comma ((replicate n t.Comma ++ t.RightParen ∷ []) ++ s) ≡ true
-  comma_first zero s h = absurd (omega arith)
-  comma_first (suc n) s h = refl
+  quiet : (xs : List Terminal) → begins (λ (k : Terminal). false) xs ≡ false
+  quiet [] = refl
+  quiet (x ∷ xs) = refl
 
-  no_commas : (xs ys : List Terminal) → begins is_comma xs ≡ true → xs ≡ ys → begins is_comma ys ≡ false → ⊥
-  no_commas xs ys h e k = true≢false (sym h ∙ ap (begins is_comma) e ∙ k)
+  tuple_decide : (n : ℕ) (rest : List Terminal) → Reads tuple_name_form n rest → (s : List Terminal) (other : ATypeTree) (after : List Terminal) →
+      SameStart rest s → ParenCase other ((replicate n t.Comma ++ t.RightParen ∷ []) ++ s) after → (other ≡ named_type n) × (after ≡ s)
+  tuple_decide n rest r s other after same (of_arrow eq e) = absurd (clash starts_tuple_name _ _ (name_first n s) e refl)
+  tuple_decide n rest r s other after same (of_commas m eq most e) =
+      let found = r.only s m after same most (quiet after) e in
+      (eq ∙ ap named_type found.0, found.1)
+  tuple_decide n rest r s other after same (of_parts p eq are e) =
+      absurd (clash starts_tuple_name _ _ (name_first n s) e (parts_no_tuple p after))
 
-  starts_no_comma : (xs : List Terminal) → begins starts_atype xs ≡ true → begins is_comma xs ≡ false
-  starts_no_comma [] h = refl
-  starts_no_comma (t.Con x ∷ xs) h = refl
-  starts_no_comma (t.Comma ∷ xs) h = absurd (true≢false (sym h))
-  starts_no_comma (_ ∷ xs) h = refl
-
-  parts_no_comma : (p : Parts) (after : List Terminal) → begins is_comma ((spelling_parts p ++ t.RightParen ∷ []) ++ after) ≡ false
-  parts_no_comma p after = starts_no_comma _ (parts_start p after)
-
-  tuple_decide : (n : ℕ) (rest : List Terminal) → 0 < n → Reads tuple_name_form n rest → (s : List Terminal) (other : ATypeTree) (after : List Terminal) →
-      SameStart rest s → ParenCase other ((replicate n t.Comma ++ t.RightParen ∷ []) ++ s) after → (other ≡ a.TupleCon n) × (after ≡ s)
-  tuple_decide n rest lt r s other after same (of_unit eq e) = absurd (no_commas _ _ (comma_first n s lt) e refl)
-  tuple_decide n rest lt r s other after same (of_arrow eq e) = absurd (no_commas _ _ (comma_first n s lt) e refl)
-  tuple_decide n rest lt r s other after same (of_tuple m eq some most e) =
-      let found = r.only s m after same (some, most) (quiet_never after) e in
-      (eq ∙ ap a.TupleCon found.0, found.1)
-    where
-      quiet_never : (xs : List Terminal) → begins (λ (k : Terminal). false) xs ≡ false
-      quiet_never [] = refl
-      quiet_never (x ∷ xs) = refl
-  tuple_decide n rest lt r s other after same (of_parts p eq are e) = absurd (no_commas _ _ (comma_first n s lt) e (parts_no_comma p after))
-
-  pub tuple_read : (n : ℕ) (rest : List Terminal) → Reads tuple_name_form n rest → Reads (atype_form limit) (a.TupleCon n) rest
+  pub tuple_read : (n : ℕ) (rest : List Terminal) → Reads tuple_name_form n rest → Reads (atype_form limit) (named_type n) rest
   tuple_read n rest r =
-      paren_read (a.TupleCon n) (replicate n t.Comma ++ t.RightParen ∷ []) rest (tuple_spelled n) (tuple_good n r.good).0 (tuple_good n r.good).1
-      (λ s other after same good c. tuple_decide n rest r.good.0 r s other after same c)
+      paren_read (named_type n) (replicate n t.Comma ++ t.RightParen ∷ []) rest (named_spelled n) (named_good n r.good).0 (named_good n r.good).1
+      (λ s other after same good c. tuple_decide n rest r s other after same c)
 
   -- types between round brackets
   abbrev pub inner_parts : Form Terminal Parts
@@ -150,19 +139,14 @@ module _ (limit : Option ℕ) where
   parts_good p one good =
       (parts_are p ∙ good.0, subst (Within limit) (sym (parts_deep p)) (within_raised limit (depth_of_parts p) 1 one good.1))
 
-  quiet : (xs : List Terminal) → begins (λ (k : Terminal). false) xs ≡ false
-  quiet [] = refl
-  quiet (x ∷ xs) = refl
-
   no_name : (xs ys : List Terminal) → begins ends_name xs ≡ false → xs ≡ ys → begins ends_name ys ≡ true → ⊥
   no_name xs ys h e k = true≢false (sym k ∙ sym (ap (begins ends_name) e) ∙ h)
 
-  comma_ends : (xs : List Terminal) → begins is_comma xs ≡ true → begins ends_name xs ≡ true
-  comma_ends [] h = absurd (true≢false (sym h))
-  comma_ends (t.Comma ∷ xs) h = refl
-  comma_ends (t.RightParen ∷ xs) h = refl
-  comma_ends (t.Arrow ∷ xs) h = refl
-  comma_ends (_ ∷ xs) h = absurd (true≢false (sym h))
+  name_ends : (xs : List Terminal) → begins starts_tuple_name xs ≡ true → begins ends_name xs ≡ true
+  name_ends [] h = absurd (true≢false (sym h))
+  name_ends (t.Comma ∷ xs) h = refl
+  name_ends (t.RightParen ∷ xs) h = refl
+  name_ends (_ ∷ xs) h = absurd (true≢false (sym h))
 
   starts_no_name : (xs : List Terminal) → begins starts_atype xs ≡ true → begins ends_name xs ≡ false
   starts_no_name [] h = refl
@@ -175,10 +159,9 @@ module _ (limit : Option ℕ) where
   parts_decide : (p : Parts) (rest : List Terminal) → Reads inner_parts p rest → (s : List Terminal) (other : ATypeTree) (after : List Terminal) →
       SameStart rest s → (is_atype other ≡ true) × Within limit (depth_of_atype other) →
       ParenCase other ((spelling_parts p ++ t.RightParen ∷ []) ++ s) after → (other ≡ a.Parts p.0 p.1) × (after ≡ s)
-  parts_decide p rest r s other after same good (of_unit eq e) = absurd (no_name _ _ (starts_no_name _ (parts_start p s)) e refl)
   parts_decide p rest r s other after same good (of_arrow eq e) = absurd (no_name _ _ (starts_no_name _ (parts_start p s)) e refl)
-  parts_decide p rest r s other after same good (of_tuple n eq some most e) =
-      absurd (no_name _ _ (starts_no_name _ (parts_start p s)) e (comma_ends _ (comma_first n after some)))
+  parts_decide p rest r s other after same good (of_commas n eq most e) =
+      absurd (no_name _ _ (starts_no_name _ (parts_start p s)) e (name_ends _ (name_first n after)))
   parts_decide p rest r s other after same good (of_parts q eq are e) =
       let found = r.only s q after same (good_inner q other eq are good.1) (quiet after) e in
       (eq ∙ ap (λ (v : Parts). a.Parts v.0 v.1) found.0, found.1)
@@ -264,14 +247,11 @@ module _ (limit : Option ℕ) where
   -- nothing begins here
   pub none_refused : (bad : List Terminal) → begins starts_atype bad ≡ false → Refuses (atype_form limit) [] bad
   none_refused bad ends = record {
-    begun = (t.LeftParen ∷ t.RightParen ∷ [], a.Unit, unit_good, sym unit_spelled);
+    begun = (t.LeftParen ∷ t.RightParen ∷ [], a.Unit, named_good 0 (omega arith), sym (named_spelled 0));
     never = λ s other after same good quiet e.
         true≢false (sym (ap (begins starts_atype) e ∙ begins_append starts_atype (spelling_atype other) after (atype_starts other))
         ∙ begins_same starts_atype bad s same ∙ ends);
   }
-
-  clash : (f : Terminal → Bool) (xs ys : List Terminal) → begins f xs ≡ true → xs ≡ ys → begins f ys ≡ false → ⊥
-  clash f xs ys h e k = true≢false (sym h ∙ ap (begins f) e ∙ k)
 
   parts_no_arrow : (p : Parts) (after : List Terminal) → begins is_arrow ((spelling_parts p ++ t.RightParen ∷ []) ++ after) ≡ false
   parts_no_arrow p after = starts_no_arrow _ (parts_start p after)
@@ -283,10 +263,9 @@ module _ (limit : Option ℕ) where
       starts_no_arrow (_ ∷ xs) h = refl
 
   arrow_only : (s : List Terminal) (other : ATypeTree) (after : List Terminal) → begins is_right_paren s ≡ false → ParenCase other (t.Arrow ∷ s) after → ⊥
-  arrow_only s other after ends (of_unit eq e) = cc
   arrow_only s other after ends (of_arrow eq e) =
       let e' : s ≡ t.RightParen ∷ after = cc in true≢false (sym (ap (begins is_right_paren) e') ∙ ends)
-  arrow_only s other after ends (of_tuple n eq some most e) = clash is_comma _ _ (comma_first n after some) (sym e) refl
+  arrow_only s other after ends (of_commas n eq most e) = clash starts_tuple_name _ _ (name_first n after) (sym e) refl
   arrow_only s other after ends (of_parts p eq are e) = clash is_arrow _ _ refl e (parts_no_arrow p after)
 
   -- `(->` without its end
@@ -296,26 +275,24 @@ module _ (limit : Option ℕ) where
       (λ s other after same good c. arrow_only s other after (begins_same is_right_paren bad s same ∙ ends) c)
 
   tuple_only : (before bad : List Terminal) → Refuses tuple_name_form before bad → (s : List Terminal) (other : ATypeTree) (after : List Terminal) →
-      SameStart bad s → begins is_comma (before ++ s) ≡ true → ParenCase other (before ++ s) after → ⊥
-  tuple_only before bad r s other after same comma (of_unit eq e) = clash is_comma _ _ comma e refl
-  tuple_only before bad r s other after same comma (of_arrow eq e) = clash is_comma _ _ comma e refl
-  tuple_only before bad r s other after same comma (of_tuple n eq some most e) = r.never s n after same (some, most) (quiet after) e
-  tuple_only before bad r s other after same comma (of_parts p eq are e) = clash is_comma _ _ comma e (parts_no_comma p after)
+      SameStart bad s → begins starts_tuple_name (before ++ s) ≡ true → ParenCase other (before ++ s) after → ⊥
+  tuple_only before bad r s other after same name (of_arrow eq e) = clash starts_tuple_name _ _ name e refl
+  tuple_only before bad r s other after same name (of_commas n eq most e) = r.never s n after same most (quiet after) e
+  tuple_only before bad r s other after same name (of_parts p eq are e) = clash starts_tuple_name _ _ name e (parts_no_tuple p after)
 
-  pub tuple_refused : (before bad : List Terminal) → begins is_comma (before ++ bad) ≡ true → Refuses tuple_name_form before bad →
+  pub tuple_refused : (before bad : List Terminal) → begins starts_tuple_name (before ++ bad) ≡ true → Refuses tuple_name_form before bad →
       Refuses (atype_form limit) (t.LeftParen ∷ before) bad
-  tuple_refused before bad comma r =
-      paren_refused before bad r.begun.0 (a.TupleCon r.begun.1) (tuple_good r.begun.1 r.begun.2)
-      (tuple_spelled r.begun.1 ∙ ap (λ xs. t.LeftParen ∷ xs) (sym r.begun.3))
+  tuple_refused before bad name r =
+      paren_refused before bad r.begun.0 (named_type r.begun.1) (named_good r.begun.1 r.begun.2)
+      (named_spelled r.begun.1 ∙ ap (λ xs. t.LeftParen ∷ xs) (sym r.begun.3))
       (λ s other after same good c.
-      tuple_only before bad r s other after same (begins_same is_comma _ _ (same_start_append before bad s same) ∙ comma) c)
+      tuple_only before bad r s other after same (begins_same starts_tuple_name _ _ (same_start_append before bad s same) ∙ name) c)
 
   parts_only : (before bad : List Terminal) → Refuses inner_parts before bad → (s : List Terminal) (other : ATypeTree) (after : List Terminal) →
       SameStart bad s → (is_atype other ≡ true) × Within limit (depth_of_atype other) → begins ends_name (before ++ s) ≡ false →
       ParenCase other (before ++ s) after → ⊥
-  parts_only before bad r s other after same good ends (of_unit eq e) = no_name _ _ ends e refl
   parts_only before bad r s other after same good ends (of_arrow eq e) = no_name _ _ ends e refl
-  parts_only before bad r s other after same good ends (of_tuple n eq some most e) = no_name _ _ ends e (comma_ends _ (comma_first n after some))
+  parts_only before bad r s other after same good ends (of_commas n eq most e) = no_name _ _ ends e (name_ends _ (name_first n after))
   parts_only before bad r s other after same good ends (of_parts p eq are e) =
       r.never s p after same (good_inner p other eq are good.1) (quiet after) e
 
@@ -333,15 +310,14 @@ module _ (limit : Option ℕ) where
 
   paren_deep : (s : List Terminal) (other : ATypeTree) (after : List Terminal) → (Within limit 1 → ⊥) →
       (is_atype other ≡ true) × Within limit (depth_of_atype other) → begins ends_name s ≡ false → ParenCase other s after → ⊥
-  paren_deep s other after over good ends (of_unit eq e) = no_name _ _ ends e refl
   paren_deep s other after over good ends (of_arrow eq e) = no_name _ _ ends e refl
-  paren_deep s other after over good ends (of_tuple n eq some most e) = no_name _ _ ends e (comma_ends _ (comma_first n after some))
+  paren_deep s other after over good ends (of_commas n eq most e) = no_name _ _ ends e (name_ends _ (name_first n after))
   paren_deep s other after over good ends (of_parts p eq are e) = no_room p other over eq good.1
 
   -- a bracket too deep
   pub paren_over : (bad : List Terminal) → (Within limit 1 → ⊥) → begins ends_name bad ≡ false → Refuses (atype_form limit) (t.LeftParen ∷ []) bad
   paren_over bad over ends =
-      paren_refused [] bad (t.RightParen ∷ []) a.Unit unit_good unit_spelled
+      paren_refused [] bad (t.RightParen ∷ []) a.Unit (named_good 0 (omega arith)) (named_spelled 0)
       (λ s other after same good c. paren_deep s other after over good (begins_same ends_name bad s same ∙ ends) c)
 
   list_only : (before bad : List Terminal) → Refuses inner_list before bad → (s : List Terminal) (other : ATypeTree) (after : List Terminal) →

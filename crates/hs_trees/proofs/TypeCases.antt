@@ -1,17 +1,17 @@
 -- What an `atype` is by its first tokens, and how it is read from its parts.
-use Rattle.std.proofs.Common.{◌≡◌, ℕ, ◌+◌, ◌<◌, true, List, [], ◌∷◌, ◌++◌, sym, ap, ◌∙◌, subst, arith}
+use Rattle.std.proofs.Common.{◌≡◌, ℕ, zero, suc, ◌+◌, ◌<◌, true, true≢false, List, [], ◌∷◌, ◌++◌, sym, ap, ◌∙◌, subst, arith}
 use Rattle.std.specs.Prelude.{map, replicate, ◌&&◌, nat_lt, Option}
 use Rattle.std.proofs.lemmas.List.Folds.{flat_map-map}
 use Rattle.std.proofs.lemmas.Bool.Decides.{nat_tests}
-use Rattle.hs_trees.specs.Reading.{Reads}
-use Rattle.hs_trees.specs.Answers.{Within, all_of}
-use Rattle.hs_trees.specs.Types.{atype_tokens, spelling_atype, spelling_btype, spelling_type, depth_of_atype, depth_of_type, is_atype, is_type, Parts, spelling_parts, depth_of_parts, are_parts, atype_form}
+use Rattle.hs_forms.specs.Reading.{Reads}
+use Rattle.hs_forms.specs.Limits.{Within, all_of}
+use Rattle.hs_trees.specs.Types.{atype_tokens, spelling_atype, spelling_btype, spelling_type, depth_of_atype, depth_of_type, is_atype, is_type, Parts, spelling_parts, depth_of_parts, are_parts, atype_form, named_type}
 use Rattle.hs_tokens.specs.declared.terminal.Terminal.{Terminal}
 use Rattle.hs_tokens.specs.declared.terminal.Terminal.TheVariants as t
 use Rattle.hs_trees.specs.declared.types.ATypeTree.{ATypeTree, ATypeTree-F, out-ATypeTree, roll-ATypeTree, roll-out-ATypeTree, map-ATypeTree}
 use Rattle.hs_trees.specs.declared.types.ATypeTree.TheVariants as a
 use Rattle.hs_trees.specs.declared.types.TypeTree.{TypeTree}
-use Rattle.hs_trees.proofs.Limits.{within_zero, and_left, and_right}
+use Rattle.hs_forms.proofs.LimitLemmas.{within_zero, and_left, and_right}
 use Rattle.hs_trees.proofs.TypeLayers.{ALayer, atype_spelled, atype_deep, atype_is, length_of_map}
 
 pub parts_spelled : (p : Parts) → spelling_atype (a.Parts p.0 p.1) ≡ t.LeftParen ∷ (spelling_parts p ++ t.RightParen ∷ [])
@@ -38,10 +38,9 @@ list_is x = ap is_atype (sym (a.rolls-List x)) ∙ atype_is (ATypeTree-F.List x)
 
 -- an `atype` that begins with a bracket, by what follows
 pub data ParenCase (other : ATypeTree) (s after : List Terminal) : Type 0 where
-  of_unit : other ≡ a.Unit → s ≡ t.RightParen ∷ after → ParenCase other s after
   of_arrow : other ≡ a.ArrowCon → s ≡ t.Arrow ∷ t.RightParen ∷ after → ParenCase other s after
-  of_tuple : (commas : ℕ) → other ≡ a.TupleCon commas → 0 < commas → commas < 15 →
-      s ≡ (replicate commas t.Comma ++ t.RightParen ∷ []) ++ after → ParenCase other s after
+  of_commas : (n : ℕ) → other ≡ named_type n → n < 15 → s ≡ (replicate n t.Comma ++ t.RightParen ∷ []) ++ after →
+      ParenCase other s after
   of_parts : (p : Parts) → other ≡ a.Parts p.0 p.1 → are_parts p ≡ true → s ≡ (spelling_parts p ++ t.RightParen ∷ []) ++ after →
       ParenCase other s after
 
@@ -64,14 +63,16 @@ spelled_at l s after e = e ∙ ap (λ xs. xs ++ after) (atype_spelled l)
 paren_layer : (l : ALayer) (s after : List Terminal) → is_atype (roll-ATypeTree l) ≡ true → t.LeftParen ∷ s ≡ spelling_atype (roll-ATypeTree l) ++ after →
     ParenCase (roll-ATypeTree l) s after
 paren_layer (ATypeTree-F.Con x) s after good e = absurd (con_apart x _ _ (spelled_at (ATypeTree-F.Con x) _ _ e))
-paren_layer ATypeTree-F.Unit s after good e = of_unit a.rolls-Unit (tail_is _ _ _ (spelled_at ATypeTree-F.Unit _ _ e))
+paren_layer ATypeTree-F.Unit s after good e =
+    of_commas 0 a.rolls-Unit (omega arith) (tail_is _ _ _ (spelled_at ATypeTree-F.Unit _ _ e))
 paren_layer ATypeTree-F.ListCon s after good e = absurd (bracket_apart _ _ (spelled_at ATypeTree-F.ListCon _ _ e))
 paren_layer ATypeTree-F.ArrowCon s after good e = of_arrow a.rolls-ArrowCon (tail_is _ _ _ (spelled_at ATypeTree-F.ArrowCon _ _ e))
-paren_layer (ATypeTree-F.TupleCon n) s after good e =
-    let both = sym (atype_is (ATypeTree-F.TupleCon n)) ∙ good in
-    of_tuple n (a.rolls-TupleCon n) (let h = and_left (nat_lt 0 n) _ both in grind (arith, nat_tests))
-    (let h = and_right (nat_lt 0 n) _ both in grind (arith, nat_tests))
-    (tail_is _ _ _ (spelled_at (ATypeTree-F.TupleCon n) _ _ e))
+paren_layer (ATypeTree-F.TupleCon zero) s after good e =
+    absurd (true≢false (sym (sym (atype_is (ATypeTree-F.TupleCon 0)) ∙ good)))
+paren_layer (ATypeTree-F.TupleCon (suc n)) s after good e =
+    let most = and_right (nat_lt 0 (suc n)) _ (sym (atype_is (ATypeTree-F.TupleCon (suc n))) ∙ good) in
+    of_commas (suc n) (a.rolls-TupleCon (suc n)) (grind (arith, nat_tests))
+    (tail_is _ _ _ (spelled_at (ATypeTree-F.TupleCon (suc n)) _ _ e))
 paren_layer (ATypeTree-F.Var x) s after good e = absurd (var_apart x _ _ (spelled_at (ATypeTree-F.Var x) _ _ e))
 paren_layer (ATypeTree-F.Parts x y) s after good e =
     let same = a.rolls-Parts x y in

@@ -2,7 +2,7 @@
 use Rattle.std.proofs.Common.{◌≡◌, ℕ, ◌+◌, ◌<◌, true, false, List, [], ◌∷◌, ◌++◌, length, refl, sym, ◌∙◌, subst, true≢false, arith, length-append}
 use Rattle.std.specs.Prelude.{map, max, ◌||◌, nat_lt, Option}
 use Rattle.std.proofs.lemmas.Bool.Decides.{nat_tests}
-use Rattle.hs_trees.specs.Answers.{Within, lowered, deepest}
+use Rattle.hs_forms.specs.Limits.{Within, lowered, deepest}
 use Rattle.hs_tokens.specs.Terminals.{is_arrow, is_comma}
 use Rattle.hs_trees.specs.Types.{starts_atype, spelling_atype, spelling_btype, spelling_type, depth_of_atype, depth_of_btype, depth_of_type, is_atype, is_btype, is_type, Parts, atype_form, btype_form, type_form, parts_form}
 use Rattle.hs_tokens.specs.declared.terminal.Terminal.{Terminal}
@@ -10,8 +10,9 @@ use Rattle.hs_tokens.specs.declared.terminal.Terminal.TheVariants as t
 use Rattle.hs_trees.specs.declared.types.ATypeTree.{ATypeTree}
 use Rattle.hs_trees.specs.declared.types.BTypeTree.{BTypeTree, out-BTypeTree, roll-BTypeTree, roll-out-BTypeTree}
 use Rattle.hs_trees.specs.declared.types.TypeTree.{TypeTree, out-TypeTree, roll-TypeTree, roll-out-TypeTree}
-use Rattle.hs_trees.proofs.Chains.{Chain}
-use Rattle.hs_trees.proofs.Limits.{within_less, within_lowered, within_raised, within_max, and_left, and_right, and_both, all_here, all_more, deep_here, deep_front, deep_more, or_left, or_right}
+use Rattle.hs_forms.specs.Productions.{Chain}
+use Rattle.std.proofs.lemmas.Bool.{and_from}
+use Rattle.hs_forms.proofs.LimitLemmas.{within_less, within_lowered, within_raised, within_max, and_left, and_right, all_here, all_more, deep_here, deep_front, deep_more, or_left, or_right}
 use Rattle.hs_trees.proofs.TypeLayers.{BLayer, Layer, atype_starts, btype_spelled, btype_deep, btype_is, type_spelled, type_deep, type_is}
 
 abbrev pub make_btype : ATypeTree → List ATypeTree → BTypeTree
@@ -50,7 +51,7 @@ module _ (limit : Option ℕ) where
   pub btype_first : (h : ATypeTree) → (atype_form limit).Good h → (btype_form limit).Good (make_btype h [])
   btype_first h good =
       let l : BLayer = record { first = h; rest = [] } in (
-        btype_is l ∙ and_both (is_atype h) true good.0 refl,
+        btype_is l ∙ and_from (is_atype h) true good.0 refl,
         subst (Within limit) (sym (btype_deep l)) (within_less limit _ (depth_of_atype h) (omega arith) good.1),
       )
 
@@ -62,7 +63,7 @@ module _ (limit : Option ℕ) where
       let is = sym (btype_is l) ∙ good.0 in
       let old : Within limit (max (depth_of_atype h) (deepest (map depth_of_atype xs))) = subst (Within limit) (btype_deep l) good.1 in
       let new = deep_more depth_of_atype xs x in (
-        btype_is l' ∙ and_both _ _ (and_left (is_atype h) _ is) (all_more is_atype xs x (and_right (is_atype h) _ is) item.0),
+        btype_is l' ∙ and_from _ _ (and_left (is_atype h) _ is) (all_more is_atype xs x (and_right (is_atype h) _ is) item.0),
         subst (Within limit) (sym (btype_deep l'))
             (within_less limit _ (max (max (depth_of_atype h) (deepest (map depth_of_atype xs))) (depth_of_atype x) + 0) (omega arith)
             (within_max limit _ _ 0 (within_less limit _ _ (omega arith) old) (within_less limit _ _ (omega arith) item.1))),
@@ -113,7 +114,7 @@ module _ (limit : Option ℕ) where
   pub type_first : (h : BTypeTree) → (btype_form limit).Good h → (type_form limit).Good (make_type h [])
   type_first h good =
       let l : Layer = record { first = h; rest = [] } in (
-        type_is l ∙ and_both (is_btype h) true good.0 refl,
+        type_is l ∙ and_from (is_btype h) true good.0 refl,
         subst (Within limit) (sym (type_deep l)) (within_less limit _ (depth_of_btype h) (omega arith) good.1),
       )
 
@@ -127,7 +128,7 @@ module _ (limit : Option ℕ) where
       let long = length-append xs (x ∷ []) in
       let part : Within limit (depth_of_btype x + (length xs + 1)) =
       within_raised limit (depth_of_btype x) (length xs + 1) (within_less limit _ _ (omega arith) room) item.1 in (
-        type_is l' ∙ and_both _ _ (and_left (is_btype h) _ is) (all_more is_btype xs x (and_right (is_btype h) _ is) item.0),
+        type_is l' ∙ and_from _ _ (and_left (is_btype h) _ is) (all_more is_btype xs x (and_right (is_btype h) _ is) item.0),
         subst (Within limit) (sym (type_deep l'))
             (within_less limit _ (max (max (depth_of_btype h) (deepest (map depth_of_btype xs))) (depth_of_btype x) + (length xs + 1)) (omega arith)
             (within_max limit _ _ (length xs + 1) room part)),
@@ -187,7 +188,7 @@ module _ (limit : Option ℕ) where
       let new = deep_more depth_of_type xs x in
       let long = length-append xs (x ∷ []) in
       let short : length (xs ++ x ∷ []) < 15 = omega arith in (
-        and_both _ _ (grind (arith, nat_tests)) (and_both _ _ (and_left (is_type h) _ is) (all_more is_type xs x (and_right (is_type h) _ is) item.0)),
+        and_from _ _ (grind (arith, nat_tests)) (and_from _ _ (and_left (is_type h) _ is) (all_more is_type xs x (and_right (is_type h) _ is) item.0)),
         within_less limit _ (max (max (depth_of_type h) (deepest (map depth_of_type xs))) (depth_of_type x) + 0) (omega arith)
             (within_max limit _ _ 0 (within_less limit _ _ (omega arith) good.1) (within_less limit _ _ (omega arith) item.1)),
       )
@@ -228,7 +229,7 @@ module _ (limit : Option ℕ) where
       apart_head = λ h x more k good e. comma_apart k e;
       apart_item = λ h xs x y more k good e. comma_apart k e;
     };
-    first = λ h good. (and_both (is_type h) true good.0 refl, within_less limit _ (depth_of_type h) (omega arith) good.1);
+    first = λ h good. (and_from (is_type h) true good.0 refl, within_less limit _ (depth_of_type h) (omega arith) good.1);
     more = parts_more;
     full = parts_full;
   }

@@ -2,15 +2,15 @@
 use Rattle.std.proofs.Common.{◌≡◌, ℕ, suc, ◌+◌, Bool, true, List, [], ◌∷◌, ◌++◌, length, refl, ap, ◌∙◌, subst}
 use Rattle.std.specs.Prelude.{flat_map, map, max, ◌&&◌}
 use Rattle.std.proofs.lemmas.List.Folds.{flat_map-map}
-use Rattle.hs_trees.specs.Reading.{begins}
-use Rattle.hs_trees.specs.Answers.{deepest, all_of}
+use Rattle.hs_forms.specs.Reading.{begins}
+use Rattle.hs_forms.specs.Limits.{deepest, all_of}
 use Rattle.hs_trees.specs.Types.{atype_tokens, btype_tokens, type_tokens, atype_depth, btype_depth, type_depth, atype_formed, btype_formed, type_formed, starts_atype, spelling_atype, spelling_btype, spelling_type, depth_of_atype, depth_of_btype, depth_of_type, is_atype, is_btype, is_type}
 use Rattle.hs_tokens.specs.declared.terminal.Terminal.{Terminal}
 use Rattle.hs_tokens.specs.declared.terminal.Terminal.TheVariants as t
 use Rattle.hs_trees.specs.declared.types.ATypeTree.{ATypeTree, ATypeTree-F, out-ATypeTree, roll-ATypeTree, roll-out-ATypeTree, fold-roll-ATypeTree, map-ATypeTree}
 use Rattle.hs_trees.specs.declared.types.BTypeTree.{BTypeTree, BTypeTree-F, out-BTypeTree, roll-BTypeTree, roll-out-BTypeTree, fold-roll-BTypeTree}
 use Rattle.hs_trees.specs.declared.types.TypeTree.{TypeTree, TypeTree-F, out-TypeTree, roll-TypeTree, roll-out-TypeTree, fold-roll-TypeTree}
-use Rattle.hs_trees.proofs.Forms.{begins_append}
+use Rattle.hs_forms.proofs.FormLemmas.{begins_append}
 
 abbrev pub ALayer : Type 0
 ALayer = ATypeTree-F ATypeTree BTypeTree TypeTree

@@ -1,24 +1,26 @@
 -- At most one type is spelled by a list of tokens, whatever its depth.
-use Rattle.std.proofs.Common.{◌≡◌, ℕ, zero, suc, ◌+◌, ◌<◌, ◌≤◌, true, false, List, [], ◌∷◌, ◌++◌, length, refl, sym, ap, ◌∙◌, subst, arith, length-append, le_refl}
+use Rattle.std.proofs.Common.{◌≡◌, ℕ, zero, suc, ◌+◌, ◌<◌, ◌≤◌, true, false, List, [], ◌∷◌, ◌++◌, length, refl, sym, ap, ◌∙◌, subst, arith, length-append, le_refl, true≢false}
 use Rattle.std.specs.Prelude.{flat_map, ◌||◌, nat_lt, None}
 use Rattle.std.proofs.lemmas.Bool.Decides.{nat_tests}
-use Rattle.hs_trees.specs.Reading.{begins, Reads}
-use Rattle.hs_trees.specs.Whole.{Spells}
+use Rattle.hs_forms.specs.Reading.{begins, Reads}
+use Rattle.hs_forms.specs.Whole.{Spells}
 use Rattle.hs_trees.specs.Types.{starts_atype, spelling_atype, spelling_btype, spelling_type, is_atype, is_btype, is_type, Parts, spelling_parts, are_parts, atype_form, btype_form, type_form, parts_form}
-use Rattle.hs_tokens.specs.Terminals.{is_arrow, is_comma}
+use Rattle.hs_tokens.specs.Terminals.{is_arrow, is_comma, is_right_paren}
 use Rattle.hs_tokens.specs.declared.terminal.Terminal.{Terminal}
 use Rattle.hs_tokens.specs.declared.terminal.Terminal.TheVariants as t
 use Rattle.hs_trees.specs.declared.types.ATypeTree.{ATypeTree, ATypeTree-F, out-ATypeTree, roll-ATypeTree, roll-out-ATypeTree}
 use Rattle.hs_trees.specs.declared.types.ATypeTree.TheVariants as a
 use Rattle.hs_trees.specs.declared.types.BTypeTree.{BTypeTree, out-BTypeTree, roll-BTypeTree, roll-out-BTypeTree}
 use Rattle.hs_trees.specs.declared.types.TypeTree.{TypeTree, out-TypeTree, roll-TypeTree, roll-out-TypeTree}
-use Rattle.hs_trees.proofs.Forms.{reads_behind, reads_closed}
-use Rattle.hs_trees.proofs.Limits.{and_left, and_right, and_both}
+use Rattle.hs_forms.proofs.FormLemmas.{reads_behind, reads_closed}
+use Rattle.std.proofs.lemmas.Bool.{and_from}
+use Rattle.hs_forms.proofs.LimitLemmas.{and_left, and_right}
 use Rattle.hs_trees.proofs.TypeLayers.{ALayer, BLayer, Layer, atype_is, atype_starts, btype_spelled, btype_is, type_spelled, type_is}
 use Rattle.hs_trees.proofs.TypeCases.{parts_spelled, parts_are, list_spelled, list_is, con_read, var_read}
-use Rattle.hs_trees.proofs.TypeBrackets.{unit_read, arrow_read, tuple_read, parts_read, list_con_read, list_read}
-use Rattle.hs_trees.proofs.Commas.{name_read}
-use Rattle.hs_trees.proofs.Readable.{chain_all, all_less, part_length, some_length}
+use Rattle.hs_trees.proofs.TypeBrackets.{arrow_read, tuple_read, parts_read, list_con_read, list_read}
+use Rattle.hs_forms.proofs.CommaLemmas.{commas_read}
+use Rattle.hs_forms.proofs.WholeChainLemmas.{chain_all, all_less, part_length}
+use Rattle.hs_forms.proofs.WholeChainLemmas.{begins_length}
 use Rattle.hs_trees.proofs.TypeChains.{make_btype, make_type, make_parts, arrow_items, comma_items, btype_chain, type_chain, parts_chain}
 
 -- a front of a chain is one
@@ -27,14 +29,14 @@ btype_less h ys zs good =
     let m : BLayer = record { first = h; rest = ys ++ zs } in
     let k : BLayer = record { first = h; rest = ys } in
     let both = sym (btype_is m) ∙ good.0 in
-    (btype_is k ∙ and_both _ _ (and_left (is_atype h) _ both) (all_less is_atype ys zs (and_right (is_atype h) _ both)), tt)
+    (btype_is k ∙ and_from _ _ (and_left (is_atype h) _ both) (all_less is_atype ys zs (and_right (is_atype h) _ both)), tt)
 
 type_less : (h : BTypeTree) (ys zs : List BTypeTree) → (type_form None).Good (make_type h (ys ++ zs)) → (type_form None).Good (make_type h ys)
 type_less h ys zs good =
     let m : Layer = record { first = h; rest = ys ++ zs } in
     let k : Layer = record { first = h; rest = ys } in
     let both = sym (type_is m) ∙ good.0 in
-    (type_is k ∙ and_both _ _ (and_left (is_btype h) _ both) (all_less is_btype ys zs (and_right (is_btype h) _ both)), tt)
+    (type_is k ∙ and_from _ _ (and_left (is_btype h) _ both) (all_less is_btype ys zs (and_right (is_btype h) _ both)), tt)
 
 parts_less : (h : TypeTree) (ys zs : List TypeTree) → (parts_form None).Good (make_parts h (ys ++ zs)) → (parts_form None).Good (make_parts h ys)
 parts_less h ys zs good =
@@ -43,7 +45,7 @@ parts_less h ys zs good =
     let long = length-append ys zs in
     let lt : length (ys ++ zs) < 15 = grind (arith, nat_tests) in
     let less : length ys < 15 = omega arith in
-    (and_both _ _ (grind (arith, nat_tests)) (and_both _ _ (and_left (is_type h) _ more) (all_less is_type ys zs (and_right (is_type h) _ more))), tt)
+    (and_from _ _ (grind (arith, nat_tests)) (and_from _ _ (and_left (is_type h) _ more) (all_less is_type ys zs (and_right (is_type h) _ more))), tt)
 
 abbrev Upto : ℕ → Type 0
 Upto n = (x : ATypeTree) → length (spelling_atype x) ≤ n → is_atype x ≡ true → (rest : List Terminal) → Reads (atype_form None) x rest
@@ -96,15 +98,16 @@ module _ (n : ℕ) (below : Upto n) where
   atype_of : (l : ALayer) → length (spelling_atype (roll-ATypeTree l)) ≤ suc n → is_atype (roll-ATypeTree l) ≡ true → (rest : List Terminal) →
       Reads (atype_form None) (roll-ATypeTree l) rest
   atype_of (ATypeTree-F.Con x) short is rest = subst (λ o. Reads (atype_form None) o rest) (sym (a.rolls-Con x)) (con_read None x rest)
-  atype_of ATypeTree-F.Unit short is rest = subst (λ o. Reads (atype_form None) o rest) (sym a.rolls-Unit) (unit_read None rest)
+  atype_of ATypeTree-F.Unit short is rest = subst (λ o. Reads (atype_form None) o rest) (sym a.rolls-Unit) (tuple_read None 0 rest (commas_read t.Comma t.RightParen is_comma is_right_paren refl refl refl 15 0 rest (omega arith)))
   atype_of ATypeTree-F.ListCon short is rest = subst (λ o. Reads (atype_form None) o rest) (sym a.rolls-ListCon) (list_con_read None rest)
   atype_of ATypeTree-F.ArrowCon short is rest = subst (λ o. Reads (atype_form None) o rest) (sym a.rolls-ArrowCon) (arrow_read None rest)
-  atype_of (ATypeTree-F.TupleCon m) short is rest =
-      let both = sym (atype_is (ATypeTree-F.TupleCon m)) ∙ is in
-      let some = and_left (nat_lt 0 m) _ both in
-      let most = and_right (nat_lt 0 m) _ both in
-      subst (λ o. Reads (atype_form None) o rest) (sym (a.rolls-TupleCon m))
-      (tuple_read None m rest (name_read m rest (grind (arith, nat_tests)) (grind (arith, nat_tests))))
+  atype_of (ATypeTree-F.TupleCon zero) short is rest =
+      absurd (true≢false (sym (sym (atype_is (ATypeTree-F.TupleCon 0)) ∙ is)))
+  atype_of (ATypeTree-F.TupleCon (suc m)) short is rest =
+      let most = and_right (nat_lt 0 (suc m)) _ (sym (atype_is (ATypeTree-F.TupleCon (suc m))) ∙ is) in
+      subst (λ o. Reads (atype_form None) o rest) (sym (a.rolls-TupleCon (suc m)))
+      (tuple_read None (suc m) rest
+      (commas_read t.Comma t.RightParen is_comma is_right_paren refl refl refl 15 (suc m) rest (grind (arith, nat_tests))))
   atype_of (ATypeTree-F.Var x) short is rest = subst (λ o. Reads (atype_form None) o rest) (sym (a.rolls-Var x)) (var_read None x rest)
   atype_of (ATypeTree-F.Parts x y) short is rest =
       let p : Parts = (x, y) in
@@ -121,7 +124,7 @@ module _ (n : ℕ) (below : Upto n) where
       (list_read None x rest tt (reads_closed (type_form None) t.RightBracket (λ x. refl) x rest (type_all x len good (t.RightBracket ∷ rest) refl)))
 
 upto : (n : ℕ) → Upto n
-upto zero = λ x short is rest. absurd (let some = some_length starts_atype (spelling_atype x) (atype_starts x) in omega arith)
+upto zero = λ x short is rest. absurd (let some = begins_length starts_atype (spelling_atype x) (atype_starts x) in omega arith)
 upto (suc n) =
     λ x. subst (λ o. length (spelling_atype o) ≤ suc n → is_atype o ≡ true → (rest : List Terminal) → Reads (atype_form None) o rest)
     (roll-out-ATypeTree x) (atype_of n (upto n) (out-ATypeTree x))

@@ -1,7 +1,8 @@
 -- The grammar of kinds (Haskell 2010 Report, section 4.1.1): the tokens of a tree, how deep it is, and its form.
 use Rattle.std.specs.Prelude.{ℕ, ◌+◌, max, Bool, true, false, List, [], ◌∷◌, ◌++◌, length, flat_map, Option}
-use Rattle.hs_trees.specs.Reading.{Form}
-use Rattle.hs_trees.specs.Answers.{Within, deepest}
+use Rattle.hs_forms.specs.Reading.{Form}
+use Rattle.hs_forms.specs.Answers.{Sort}
+use Rattle.hs_forms.specs.Limits.{Within, deepest}
 use Rattle.hs_tokens.specs.Terminals.{is_arrow, is_star, star}
 use Rattle.hs_tokens.specs.declared.terminal.Terminal.{Terminal}
 use Rattle.hs_tokens.specs.declared.terminal.Terminal.TheVariants as t
@@ -52,3 +53,10 @@ akind_form limit = record { tokens = spelling_akind; Good = λ x. Within limit (
 
 abbrev pub kind_form : Option ℕ → Form Terminal KindTree
 kind_form limit = record { tokens = spelling_kind; Good = λ x. Within limit (depth_of_kind x); extends = λ x k. is_arrow k }
+
+-- The forms with the depth of their trees.
+abbrev pub akind_sort : Option ℕ → Sort Terminal AKindTree
+akind_sort limit = record { form = akind_form limit; depth = depth_of_akind }
+
+abbrev pub kind_sort : Option ℕ → Sort Terminal KindTree
+kind_sort limit = record { form = kind_form limit; depth = depth_of_kind }

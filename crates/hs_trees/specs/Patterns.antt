@@ -1,8 +1,9 @@
 -- The grammar of patterns (Haskell 2010 Report, section 3.17.1): the tokens of a tree, how deep it is, and which trees there are.
-use Rattle.std.specs.Prelude.{◌≡◌, ℕ, ◌+◌, max, Bool, true, false, not, ◌&&◌, ◌||◌, nat_lt, List, [], ◌∷◌, ◌++◌, length, flat_map, map, replicate, Option}
+use Rattle.std.specs.Prelude.{◌≡◌, ℕ, zero, suc, ◌+◌, max, Bool, true, false, not, ◌&&◌, ◌||◌, nat_lt, List, [], ◌∷◌, ◌++◌, length, flat_map, map, replicate, Option}
 use Rattle.std.specs.Str.{bytes_eq}
-use Rattle.hs_trees.specs.Reading.{Form, begins}
-use Rattle.hs_trees.specs.Answers.{Within, deepest, all_of}
+use Rattle.hs_forms.specs.Reading.{Form, begins}
+use Rattle.hs_forms.specs.Answers.{Sort}
+use Rattle.hs_forms.specs.Limits.{Within, deepest, all_of}
 use Rattle.hs_tokens.specs.Terminals.{is_at, is_comma, is_minus, starts_qconop, minus}
 use Rattle.hs_tokens.specs.declared.terminal.Terminal.{Terminal}
 use Rattle.hs_tokens.specs.declared.terminal.Terminal.TheVariants as t
@@ -43,6 +44,11 @@ abbrev pub qconop_tokens : QConOpTree → Ts
 qconop_tokens (o.Sym name) = t.ConSym name ∷ []
 qconop_tokens o.Colon = t.Colon ∷ []
 qconop_tokens (o.Quoted name) = t.Backquote ∷ t.Con name ∷ t.Backquote ∷ []
+
+-- The constructor that the name of the unit or of a tuple is, by the number of its commas: `()` has none.
+abbrev pub named_con : ℕ → GConTree
+named_con zero = g.Unit
+named_con (suc n) = g.Tuple (suc n)
 
 -- a list between commas
 abbrev pub between_commas : Ts → List Ts → Ts
@@ -255,3 +261,22 @@ pats_form most limit = record {
   Good = λ p. Few most (length p.1) × (is_pat p.0 && all_of (map is_pat p.1) ≡ true) × Within limit (depth_of_pats p);
   extends = λ p k. ((starts_apat k || is_at k) || starts_qconop k) || is_comma k;
 }
+
+-- The forms with the depth of their trees.
+abbrev pub apat_sort : Option ℕ → Sort Terminal APatTree
+apat_sort limit = record { form = apat_form limit; depth = depth_of_apat }
+
+abbrev pub apats_sort : Option ℕ → Sort Terminal APats
+apats_sort limit = record { form = apats_form limit; depth = depth_of_apats }
+
+abbrev pub lpat_sort : Option ℕ → Sort Terminal LPatTree
+lpat_sort limit = record { form = lpat_form limit; depth = depth_of_lpat }
+
+abbrev pub pat_sort : Option ℕ → Sort Terminal PatTree
+pat_sort limit = record { form = pat_form limit; depth = depth_of_pat }
+
+abbrev pub pats_sort : Option ℕ → Option ℕ → Sort Terminal Pats
+pats_sort most limit = record { form = pats_form most limit; depth = depth_of_pats }
+
+abbrev pub qconop_sort : Sort Terminal QConOpTree
+qconop_sort = record { form = qconop_form; depth = λ op. 0 }

@@ -1,11 +1,14 @@
 -- The grammar of types: which tokens a tree stands for, how deep it is, and which trees there are.
-use Rattle.std.specs.Prelude.{◌≡◌, ℕ, ◌+◌, ◌<◌, max, Bool, true, false, ◌&&◌, ◌||◌, nat_lt, List, [], ◌∷◌, ◌++◌, length, flat_map, replicate, map, Option}
-use Rattle.hs_trees.specs.Reading.{Form}
-use Rattle.hs_trees.specs.Answers.{Within, deepest, all_of}
+use Rattle.std.specs.Prelude.{◌≡◌, ℕ, zero, suc, ◌+◌, max, Bool, true, false, ◌&&◌, ◌||◌, nat_lt, List, [], ◌∷◌, ◌++◌, length, flat_map, replicate, map, Option}
+use Rattle.hs_forms.specs.Reading.{Form}
+use Rattle.hs_forms.specs.Forms.{commas_form}
+use Rattle.hs_forms.specs.Answers.{Sort}
+use Rattle.hs_forms.specs.Limits.{Within, deepest, all_of}
 use Rattle.hs_tokens.specs.Terminals.{is_arrow, is_comma}
 use Rattle.hs_tokens.specs.declared.terminal.Terminal.{Terminal}
 use Rattle.hs_tokens.specs.declared.terminal.Terminal.TheVariants as t
 use Rattle.hs_trees.specs.declared.types.ATypeTree.{ATypeTree, ATypeTree-F, fold-ATypeTree}
+use Rattle.hs_trees.specs.declared.types.ATypeTree.TheVariants as a
 use Rattle.hs_trees.specs.declared.types.BTypeTree.{BTypeTree, BTypeTree-F, fold-BTypeTree}
 use Rattle.hs_trees.specs.declared.types.TypeTree.{TypeTree, TypeTree-F, fold-TypeTree}
 
@@ -128,10 +131,33 @@ parts_form limit = record {
   extends = λ x k. (starts_atype k || is_arrow k) || is_comma k;
 }
 
--- a tuple's name without its first bracket, by the number of its commas
+-- the name of the unit or of a tuple behind its `(`, by the number of its commas
 abbrev pub tuple_name_form : Form Terminal ℕ
-tuple_name_form = record {
-  tokens = λ commas. replicate commas t.Comma ++ t.RightParen ∷ [];
-  Good = λ commas. (0 < commas) × (commas < 15);
-  extends = λ x k. false;
-}
+tuple_name_form = commas_form t.Comma t.RightParen 15
+
+-- The type of that name: `()` has no comma.
+abbrev pub named_type : ℕ → ATypeTree
+named_type zero = a.Unit
+named_type (suc n) = a.TupleCon (suc n)
+
+-- the tokens that begin such a name
+abbrev pub starts_tuple_name : Terminal → Bool
+starts_tuple_name t.RightParen = true
+starts_tuple_name t.Comma = true
+starts_tuple_name _ = false
+
+-- The forms with the depth of their trees.
+abbrev pub atype_sort : Option ℕ → Sort Terminal ATypeTree
+atype_sort limit = record { form = atype_form limit; depth = depth_of_atype }
+
+abbrev pub btype_sort : Option ℕ → Sort Terminal BTypeTree
+btype_sort limit = record { form = btype_form limit; depth = depth_of_btype }
+
+abbrev pub type_sort : Option ℕ → Sort Terminal TypeTree
+type_sort limit = record { form = type_form limit; depth = depth_of_type }
+
+abbrev pub parts_sort : Option ℕ → Sort Terminal Parts
+parts_sort limit = record { form = parts_form limit; depth = depth_of_parts }
+
+abbrev pub tuple_name_sort : Sort Terminal ℕ
+tuple_name_sort = record { form = tuple_name_form; depth = λ commas. 0 }

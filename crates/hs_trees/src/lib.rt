@@ -1,13 +1,9 @@
-//! Surface trees of Haskell sources, and what it means to read trees from the front of a list.
+//! Surface trees of kinds, types and patterns.
 #![tactic(auto)]
 
-mod error;
-mod fault;
 mod patterns;
 mod types;
 
-pub use error::ParseError;
-pub use fault::Fault;
 pub use patterns::{
     APatTree, GConTree, LPatTree, LiteralTree, OpLPat, PatTree, QConOpTree, VarTree,
 };

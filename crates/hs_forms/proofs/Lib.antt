@@ -1,0 +1,9 @@
+pub mod FormLemmas
+pub mod ChainLemmas
+pub mod StateLemmas
+pub mod UnionLemmas
+pub mod VariantLemmas
+pub mod LimitLemmas
+pub mod CommaLemmas
+pub mod WholeChainLemmas
+pub mod WholeLemmas
