@@ -327,7 +327,7 @@ mutual
       (met_in_each S ts us y m r h q)
 
 -- what leads to a name is a synonym
-starts : (S : Synonyms) (n m : OrigName) → LeadsTo S n m → (s : Synonym) × (S n ≡ Some s)
+pub starts : (S : Synonyms) (n m : OrigName) → LeadsTo S n m → (s : Synonym) × (S n ≡ Some s)
 starts S _ _ (at_once n m s q h) = (s, q)
 starts S _ _ (through n m l a b) = starts S n m a
 

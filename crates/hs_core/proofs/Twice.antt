@@ -9,7 +9,6 @@ use Rattle.bp_base.specs.declared.ident.Ident.TheVariants.{Hole, Module, Module'
 use Rattle.bp_base.specs.declared.ident.Ident.TheBlock.{end_of-Unit, more_of-Unit}
 use Rattle.bp_base.specs.declared.ty.OrigName.{OrigName}
 use Rattle.bp_base.specs.declared.ty.Space.{Space}
-use Rattle.bp_base.specs.declared.ty.Space.TheVariants.{Types, Values}
 use Rattle.bp_base.specs.declared.ty.Ty.{Ty}
 use Rattle.bp_base.specs.declared.ty.Ty.TheVariants.{Var, Con, App, App'}
 use Rattle.bp_base.specs.declared.ty.Ty.TheBlock.{end_of-Ty, more_of-Ty}

@@ -1,6 +1,7 @@
 -- When a stub module is well typed: a hole as a module that declares exactly the entries of its merged signature (Kilpatrick and
 -- others, POPL 2014). Its values have types and no bindings.
 use Rattle.std.specs.Prelude.{ℕ, suc, List, [], ◌∷◌, ◌++◌, map, flat_map}
+use Rattle.std.specs.Option.{option_or}
 use Rattle.bp_base.specs.Lists.{AreDistinct}
 use Rattle.bp_base.specs.declared.entity.Con.{Con}
 use Rattle.bp_base.specs.declared.entity.Entity.{Entity}
@@ -8,7 +9,7 @@ use Rattle.bp_base.specs.declared.entity.Entity.TheVariants.{Abstract, DataType,
 use Rattle.hs_core.specs.Types.{KindTerm, star, arrow, TypeTerm, kind_term, type_term}
 use Rattle.hs_core.specs.Kinds.{HasKind, fields, synonym, TypeDecl, IsKinding}
 use Rattle.hs_core.specs.Expansion.{IsFullyApplied, AreLawful}
-use Rattle.hs_core.specs.Globals.{Globals, kinds_of, synonyms_of, known_names, names_of, declared_by, in_front}
+use Rattle.hs_core.specs.Globals.{Globals, kinds_of, synonyms_of, known_names, declared_by, noted_by, in_front, no_names}
 use Rattle.hs_core.specs.WellTyped.{AllMeaningsFull, Each}
 
 -- how many parameters lead from a kind to `*`

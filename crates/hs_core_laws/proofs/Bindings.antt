@@ -1,11 +1,10 @@
 -- A module's binding of one clause, and expressions of which it is made.
-use Rattle.std.proofs.Common.{◌≡◌, refl, sym, ap, ◌∙◌, subst, inl, ℕ, Bool, true, false, true≢false, not, ◌||◌, List, [], ◌∷◌, ◌++◌, cond}
+use Rattle.std.proofs.Common.{◌≡◌, refl, sym, ap, ◌∙◌, subst, inl, ℕ, true, false, true≢false, not, ◌||◌, List, [], ◌∷◌, ◌++◌, cond}
 use Rattle.std.specs.Prelude.{map}
-use Rattle.std.specs.Str.{bytes_eq}
 use Rattle.std.proofs.lemmas.Slice.Eq.{bytes_eq-Decides}
 use Rattle.bp_base.specs.Texts.{Text}
 use Rattle.bp_base.specs.declared.ty.OrigName.{OrigName}
-use Rattle.type_terms.specs.Terms.{var, occurs_in, applied}
+use Rattle.type_terms.specs.Terms.{var, occurs_in}
 use Rattle.type_terms.proofs.TermLemmas.{applied-itself}
 use Rattle.hs_core.specs.declared.tree.Written.{Written}
 use Rattle.hs_core.specs.declared.tree.Pat.{Pat}
@@ -15,7 +14,7 @@ use Rattle.hs_core.specs.declared.tree.Decl.TheVariants.{TypeSig, Clause}
 use Rattle.hs_core.specs.Types.{star, TypeTerm, variables, written_term}
 use Rattle.hs_core.specs.Kinds.{HasKind}
 use Rattle.hs_core.specs.Expansion.{Expands}
-use Rattle.hs_core.specs.Schemes.{IsDeclared, Assumption, Bound, monomorphic, generalised}
+use Rattle.hs_core.specs.Schemes.{IsDeclared, Assumption, monomorphic, generalised}
 use Rattle.hs_core.specs.Globals.{Globals, plain_names, synonyms_of, HasDeclared}
 use Rattle.hs_core.specs.FreeNames.{local_decl}
 use Rattle.hs_core.specs.LocalGroups.{GroupTyping, MeetsSignature, unsigned}

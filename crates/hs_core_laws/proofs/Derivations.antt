@@ -14,7 +14,7 @@ use Rattle.type_terms.specs.Terms.{var}
 use Rattle.hs_core.specs.Types.{star, TypeTerm, function, integer, character, tuple_of, any, variables, written_term}
 use Rattle.hs_core.specs.Kinds.{HasKind}
 use Rattle.hs_core.specs.Expansion.{Expands}
-use Rattle.hs_core.specs.Expansion.Expands.{variable, name, application}
+use Rattle.hs_core.specs.Expansion.Expands.{variable, application}
 use Rattle.hs_core.specs.Schemes.{TypeScheme, IsDeclared, Assumption, Bound, monotype, monomorphic, generalised}
 use Rattle.hs_core.specs.Globals.{plain_names, synonyms_of}
 use Rattle.hs_core.specs.FreeNames.{local_decl}
@@ -22,7 +22,7 @@ use Rattle.hs_core.specs.LocalGroups.{IsTyped, GroupTyping, MeetsSignature, Exte
 use Rattle.hs_core.specs.Typing.{Kinds, IsTypedDecl, HasType}
 use Rattle.hs_core.specs.WellTyped.{typed_in}
 use Rattle.hs_core_laws.specs.Examples.{int_written, char_written, function_written, pair_written, is_simply, returns_argument, uses_at_two_types, IdentityIsTyped, LetIsGeneralised}
-use Rattle.hs_core_laws.proofs.Deriving.{alone, one_group, integer_kind, character_kind, pair_of_kind, simply_has, bare, no_synonym, function_kind, single_instance}
+use Rattle.hs_core_laws.proofs.Deriving.{alone, one_group, integer_kind, character_kind, pair_of_kind, simply_has, bare, bare_name, function_kind, single_instance}
 use denote.Hole.Carrier.{hidden, roll}
 
 abbrev pub stars : Kinds
@@ -45,7 +45,7 @@ pub written_identity : Expands (synonyms_of bare)
     (written_term (variables (function_written (WVar (codes "a")) (WVar (codes "a"))))
     (function_written (WVar (codes "a")) (WVar (codes "a")))) (function (var 0) (var 0))
 unfolding hidden-the_row-Written-0 hidden
-written_identity = application _ _ _ _ (application _ _ _ _ (name _ (no_synonym _)) (variable 0)) (variable 0)
+written_identity = application _ _ _ _ (application _ _ _ _ (bare_name _) (variable 0)) (variable 0)
 
 abbrev identity_decls : List Decl
 identity_decls = returns_argument (codes "i")
@@ -116,8 +116,8 @@ pub written_pair : Expands (synonyms_of bare)
     (written_term (variables (pair_written int_written char_written)) (pair_written int_written char_written))
     (tuple_of (integer ∷ character ∷ []))
 unfolding hidden-the_row-Written-0 hidden
-written_pair = application _ _ _ _ (application _ _ _ _ (name _ (no_synonym _)) (name _ (no_synonym _)))
-    (name _ (no_synonym _))
+written_pair = application _ _ _ _ (application _ _ _ _ (bare_name _) (bare_name _))
+    (bare_name _)
 
 abbrev identity_binding : Decl
 identity_binding = is_simply (codes "i") (Lambda (PVar (codes "x") ∷ []) (Local (codes "x")))

@@ -8,6 +8,8 @@ use Rattle.bp_base.specs.Lists.{Among}
 use Rattle.bp_base.specs.Specials.{special_name}
 use Rattle.bp_base.specs.declared.special.Special.TheVariants as s
 use Rattle.bp_base.specs.declared.ty.Space.TheVariants.{Types}
+use Rattle.bp_base.specs.declared.ident.Ident.TheViews.{roll-Unit}
+use Rattle.bp_base.specs.declared.ident.Ident.TheBlock.{hidden-the_row-Unit-0, hidden-the_row-Fill-1}
 use Rattle.bp_base.specs.declared.ty.OrigName.{OrigName}
 use Rattle.hs_core.specs.declared.tree.Exp.{Exp}
 use Rattle.hs_core.specs.declared.tree.Exp.TheVariants.{Local, Apply}
@@ -96,6 +98,10 @@ simply_has G fits e kinds env t stands h = (stands, env, extends_nothing G _ kin
 abbrev pub bare : Globals
 bare = globals_of []
 
+is_none-None : {A : Type 0} (o : Option A) → is_none o ≡ true → o ≡ None
+is_none-None None h = refl
+is_none-None (Some x) h = absurd (true≢false (sym h))
+
 -- of names none of which is a synonym none is one
 abbrev pub are_plain : List Named → Bool
 are_plain [] = true
@@ -103,7 +109,7 @@ are_plain (x ∷ xs) = is_none (synonym_in (Some x.means)) && are_plain xs
 
 no_synonym_at : (b : Bool) (x : NameMeaning) (o : Option NameMeaning) → is_none (synonym_in (Some x)) ≡ true
     → synonym_in o ≡ None → synonym_in (cond b (Some x) o) ≡ None
-no_synonym_at true x o h k = is_none-none (synonym_in (Some x)) h
+no_synonym_at true x o h k = is_none-None (synonym_in (Some x)) h
 no_synonym_at false x o h k = k
 
 pub no_synonyms_in : (xs : List Named) (G : Globals) → are_plain xs ≡ true → ((n : OrigName) → synonym_in (G n) ≡ None)
@@ -116,16 +122,24 @@ no_synonyms_in (x ∷ xs) G h k n =
 pub no_synonym : (n : OrigName) → synonyms_of bare n ≡ None
 no_synonym n = no_synonyms_in known_names no_names refl (λ m. refl) n
 
+-- no name is a synonym there
+pub bare_name : (n : OrigName) → Expands (synonyms_of bare) (con n) (con n)
+bare_name n = name n (no_synonym n)
+
 pub arrow_kind : plain_names bare (special_name Types s.Arrow) (arrow star (arrow star star))
+unfolding roll-Unit roll hidden-the_row-Unit-0 hidden-the_row-Fill-1 hidden
 arrow_kind = refl
 
 pub pair_kind : plain_names bare (special_name Types (s.Tuple 2)) (arrow star (arrow star star))
+unfolding roll-Unit roll hidden-the_row-Unit-0 hidden-the_row-Fill-1 hidden
 pair_kind = refl
 
 pub integer_kind : (kinds : Kinds) → HasKind (plain_names bare) kinds integer star
+unfolding roll-Unit roll hidden-the_row-Unit-0 hidden-the_row-Fill-1 hidden
 integer_kind kinds = refl
 
 pub character_kind : (kinds : Kinds) → HasKind (plain_names bare) kinds character star
+unfolding roll-Unit roll hidden-the_row-Unit-0 hidden-the_row-Fill-1 hidden
 character_kind kinds = refl
 
 pub function_kind : (kinds : Kinds) (t u : TypeTerm) → HasKind (plain_names bare) kinds t star

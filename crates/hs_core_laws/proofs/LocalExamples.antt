@@ -1,15 +1,17 @@
 -- Local declarations: two groups, a type signature, and a `where` over guards.
+use Rattle.bp_base.specs.declared.ident.Ident.TheViews.{roll-Unit}
+use Rattle.bp_base.specs.declared.ident.Ident.TheBlock.{hidden-the_row-Unit-0, hidden-the_row-Fill-1}
 use Rattle.std.proofs.Common.{◌≡◌, refl, sym, ap, ◌∙◌, subst, inl, inr, ℕ, zero, suc, ◌≤◌, arith, Bool, true, false, true≢false, not, ◌&&◌, ◌||◌, List, [], ◌∷◌, ◌++◌}
-use Rattle.std.specs.Prelude.{codes, ◌≢◌, nat_eq, map}
+use Rattle.std.specs.Prelude.{codes, ◌≢◌, nat_eq}
 use Rattle.std.specs.Str.{bytes_eq}
 use Rattle.std.specs.List.Sorted.{IsStrictlyIncreasing}
 use Rattle.bp_base.specs.Texts.{Text}
 use Rattle.bp_base.specs.Lists.{Among}
-use Rattle.type_terms.specs.Terms.{var, app, occurs_in}
+use Rattle.type_terms.specs.Terms.{var, occurs_in}
 use Rattle.hs_core.specs.declared.tree.Written.TheVariants.{WVar}
 use Rattle.hs_core.specs.declared.tree.Written.TheBlock.{hidden-the_row-Written-0}
 use Rattle.hs_core.specs.declared.tree.Pat.TheVariants.{PVar}
-use Rattle.hs_core.specs.declared.tree.Exp.TheVariants.{Local, Int, Chr, Apply, Let, List as ListOf}
+use Rattle.hs_core.specs.declared.tree.Exp.TheVariants.{Local, Int, Apply, Let, List as ListOf}
 use Rattle.hs_core.specs.declared.tree.Decl.{Decl}
 use Rattle.hs_core.specs.declared.tree.Decl.TheVariants.{TypeSig, Clause}
 use Rattle.hs_core.specs.declared.tree.Decl.TheBlock.{hidden-the_row-Exp-0, hidden-the_row-Exp-1, hidden-the_row-Decl-2, hidden-the_row-Guard-4, hidden-the_row-Choice-5}
@@ -23,16 +25,16 @@ use Rattle.hs_core.specs.Groups.Grouped.{none, last}
 use Rattle.hs_core.specs.Types.{star, TypeTerm, function, integer, character, list_of, tuple_of, any, variables, written_term}
 use Rattle.hs_core.specs.Kinds.{HasKind}
 use Rattle.hs_core.specs.Expansion.{Expands}
-use Rattle.hs_core.specs.Expansion.Expands.{variable, name, application}
-use Rattle.hs_core.specs.Schemes.{Assumption, Bound, monotype, monomorphic, generalised, free_in}
+use Rattle.hs_core.specs.Expansion.Expands.{variable, application}
+use Rattle.hs_core.specs.Schemes.{Assumption, Bound, monotype, monomorphic, generalised}
 use Rattle.hs_core.specs.Globals.{plain_names, synonyms_of}
 use Rattle.hs_core.specs.FreeNames.{LocalDecl, local_decl}
 use Rattle.hs_core.specs.LocalGroups.{IsTyped, GroupTyping, MeetsSignature, Extends}
-use Rattle.hs_core.specs.Typing.{Kinds, HasType, IsTypedDecl}
+use Rattle.hs_core.specs.Typing.{HasType, IsTypedDecl}
 use Rattle.hs_core_laws.specs.Examples.{simply, int_written, char_written, function_written, pair_written, is_simply}
 use Rattle.hs_core_laws.specs.Programs.{itself, two_bindings, uses_of_both, calls_itself, where_clause, GroupAfterGroupIsTyped, PolymorphicRecursionIsTyped, WhereIsSeenInGuards}
-use Rattle.hs_core_laws.proofs.Deriving.{bare, no_synonym, alone, one_group, simply_has, integer_kind, character_kind, function_kind, pair_of_kind, single_instance}
-use Rattle.hs_core_laws.proofs.Derivations.{stars, of_stars, only_one, lambda_has, to_itself, binding_typed, written_pair}
+use Rattle.hs_core_laws.proofs.Deriving.{bare, bare_name, alone, one_group, simply_has, integer_kind, character_kind, function_kind, pair_of_kind, single_instance}
+use Rattle.hs_core_laws.proofs.Derivations.{stars, of_stars, only_one, to_itself, binding_typed, written_pair}
 use Rattle.hs_core_laws.proofs.SeveralClauses.{written_function}
 use Rattle.hs_core_laws.proofs.Bindings.{one_binding, declared_with_stars}
 use denote.Hole.Carrier.{hidden, roll}
@@ -134,6 +136,7 @@ never_free true = refl
 never_free false = refl
 
 list_kind : (t : TypeTerm) → HasKind (plain_names bare) stars t star → HasKind (plain_names bare) stars (list_of t) star
+unfolding roll-Unit roll hidden-the_row-Unit-0 hidden-the_row-Fill-1 hidden
 list_kind t h = (star, refl, h)
 
 identity_kind : HasKind (plain_names bare) stars (function (var 0) (var 0)) star
@@ -169,26 +172,26 @@ two_local typed h g = record {
         agree = λ w f. refl;
         given = to_itself;
         names = refl;
-        each =
-            ((to_itself, h, (inl refl, tt)), tt);
+        each = ((to_itself, h, (inl refl, tt)), tt);
       };
       generalises = refl;
       signatures = λ e a b. absurd a;
     },
-    generalised first_seen stars k_itself,
-    record {
-      typing = record {
-        inside = stars;
-        agree = λ w f. refl;
-        given = k_itself;
-        names = refl;
-        each =
-            ((k_itself, g, (inl refl, tt)), tt);
-      };
-      generalises = refl;
-      signatures = λ e a b. absurd a;
-    },
-    refl,
+    (
+      generalised first_seen stars k_itself,
+      record {
+        typing = record {
+          inside = stars;
+          agree = λ w f. refl;
+          given = k_itself;
+          names = refl;
+          each = ((k_itself, g, (inl refl, tt)), tt);
+        };
+        generalises = refl;
+        signatures = λ e a b. absurd a;
+      },
+      refl,
+    ),
   );
 }
 
@@ -370,7 +373,7 @@ written_f : Expands (synonyms_of bare)
     (written_term (variables (function_written (WVar (codes "a")) int_written))
     (function_written (WVar (codes "a")) int_written)) f_type
 unfolding hidden-the_row-Written-0 hidden
-written_f = application _ _ _ _ (application _ _ _ _ (name _ (no_synonym _)) (variable 0)) (name _ (no_synonym _))
+written_f = application _ _ _ _ (application _ _ _ _ (bare_name _) (variable 0)) (bare_name _)
 
 abbrev f_locals : List LocalDecl
 f_locals = local_decl (TypeSig (codes "f") (function_written (WVar (codes "a")) int_written)) ∷ local_decl f_clause ∷ []
@@ -379,14 +382,12 @@ f_local : (typed : IsTyped) → typed 0 stars f_declared [] → typed 1 stars f_
     → Extends bare typed f_locals stars [] f_declared
 unfolding roll-Rhs roll hidden-the_row-Exp-0 hidden-the_row-Exp-1 hidden-the_row-Decl-2 hidden hidden-the_row-Choice-5
 f_local typed h g =
-    let group : GroupTyping typed f_locals stars f_declared
-    (1 ∷ []) = record {
+    let group : GroupTyping typed f_locals stars f_declared (1 ∷ []) = record {
       inside = stars;
       agree = λ w f. refl;
       given = f_bound;
       names = refl;
-      each =
-          ((f_bound, g, (inl refl, tt)), tt);
+      each = ((f_bound, g, (inl refl, tt)), tt);
     } in
     record {
       declared = f_declared;
@@ -400,26 +401,27 @@ f_local typed h g =
           generalises = refl;
           signatures = λ e a b. absurd b;
         },
-        [],
-        record {
-          typing = group;
-          generalises = refl;
-          signatures = λ e a b. only_one (λ e. MeetsSignature typed f_locals stars f_declared (1 ∷ []) e) _
-              (record {
-                typing = group;
-                type = f_type;
-                has = inl refl;
-                rigid = record {
-                  new = λ v. v;
-                  distinct = λ v w o p q. q;
-                  apart = λ v o. never_free
-                      (occurs_in v f_type);
-                  kinded = λ v o. refl;
-                  gives = refl;
-                };
-              }) e a;
-        },
-        refl,
+        (
+          [],
+          record {
+            typing = group;
+            generalises = refl;
+            signatures = λ e a b. only_one (λ e. MeetsSignature typed f_locals stars f_declared (1 ∷ []) e) _
+                (record {
+                  typing = group;
+                  type = f_type;
+                  has = inl refl;
+                  rigid = record {
+                    new = λ v. v;
+                    distinct = λ v w o p q. q;
+                    apart = λ v o. never_free (occurs_in v f_type);
+                    kinded = λ v o. refl;
+                    gives = refl;
+                  };
+                }) e a;
+          },
+          refl,
+        ),
       );
     }
 
@@ -440,7 +442,7 @@ recursion_typed = (
 
 pub polymorphic_recursion_is_typed : PolymorphicRecursionIsTyped
 polymorphic_recursion_is_typed = one_binding bare any (codes "p") int_written [] _ integer (integer_kind stars)
-    (name _ (no_synonym _)) (
+    (bare_name _) (
       [],
       integer,
       [],

@@ -1,6 +1,8 @@
 -- An annotation, a depth, and a whole module.
-use Rattle.std.proofs.Common.{◌≡◌, refl, sym, ap, ◌∙◌, subst, inl, inr, ℕ, suc, ◌≤◌, arith, true, false, true≢false, List, [], ◌∷◌, ◌++◌}
-use Rattle.std.specs.Prelude.{codes, Some, nat_le, max}
+use Rattle.bp_base.specs.declared.ident.Ident.TheViews.{roll-Unit}
+use Rattle.bp_base.specs.declared.ident.Ident.TheBlock.{hidden-the_row-Unit-0, hidden-the_row-Fill-1}
+use Rattle.std.proofs.Common.{◌≡◌, refl, ap, ◌∙◌, subst, inl, inr, ℕ, suc, ◌≤◌, arith, true, true≢false, List, [], ◌∷◌}
+use Rattle.std.specs.Prelude.{codes, Some, max}
 use Rattle.bp_base.specs.Lists.{Among}
 use Rattle.bp_base.specs.declared.ty.OrigName.{OrigName}
 use Rattle.bp_base.specs.declared.ty.Kind.TheBlock.{hidden-the_row-Kind-0}
@@ -12,7 +14,6 @@ use Rattle.type_terms.specs.Terms.{var}
 use Rattle.hs_core.specs.declared.tree.Written.TheVariants.{WVar}
 use Rattle.hs_core.specs.declared.tree.Pat.TheVariants.{PVar}
 use Rattle.hs_core.specs.declared.tree.Exp.TheVariants.{Local, Int}
-use Rattle.hs_core.specs.declared.tree.Decl.{Decl}
 use Rattle.hs_core.specs.declared.tree.Decl.TheViews.{roll-Rhs}
 use Rattle.hs_core.specs.declared.tree.Decl.TheBlock.{hidden-the_row-Exp-0, hidden-the_row-Decl-2, hidden-the_row-Choice-5}
 use Rattle.hs_core.specs.Types.{star, arrow, TypeTerm, any, within, depth, function, functions, integer}
@@ -25,8 +26,8 @@ use Rattle.hs_core.specs.Typing.{IsTypedDecl}
 use Rattle.hs_core.specs.WellTyped.{globals_in, IsWellKinded}
 use Rattle.hs_core.specs.Stubs.{globals_with}
 use Rattle.hs_core.proofs.ExpansionLemmas.{starts}
-use Rattle.hs_core_laws.specs.Examples.{simply, int_written, function_written, is_simply, returns_argument, here_named}
-use Rattle.hs_core_laws.specs.Programs.{one_value, of_higher_kind, AnnotationIsTyped, DepthIsMeasured, ModuleIsWellTyped, ClausesAreOneBinding, StubIsWellTyped}
+use Rattle.hs_core_laws.specs.Examples.{int_written, function_written, is_simply, returns_argument, here_named}
+use Rattle.hs_core_laws.specs.Programs.{of_higher_kind, AnnotationIsTyped, DepthIsMeasured, ModuleIsWellTyped, ClausesAreOneBinding, StubIsWellTyped}
 use Rattle.hs_core_laws.proofs.Deriving.{bare, no_groups, simply_has, first_typed, integer_kind, function_kind, single_instance}
 use Rattle.hs_core_laws.proofs.Derivations.{stars, of_stars, lambda_has, written_identity}
 use Rattle.hs_core_laws.proofs.Bindings.{one_binding, declared_with_stars}
@@ -98,11 +99,12 @@ abbrev names_there : Globals
 names_there = globals_in (globals_of []) its_names
 
 keeps : DeclKeepsRules (IsWellKinded names_there) (is_simply (codes "x") (Int 1))
-unfolding roll-Rhs roll hidden-the_row-Decl-2 hidden hidden-the_row-Choice-5
+unfolding roll-Rhs roll hidden-the_row-Decl-2 hidden hidden-the_row-Choice-5 roll-Unit hidden-the_row-Unit-0 hidden-the_row-Fill-1
 keeps = (tt, (record { bound_once = tt; signed_once = tt; signed_bound = tt }, tt, ((tt, tt, tt))))
 
 one_typed : IsTypedDecl names_there any (is_simply (codes "x") (Int 1)) stars []
     (record { name = codes "x"; type = integer } ∷ [])
+unfolding roll-Unit roll hidden-the_row-Unit-0 hidden-the_row-Fill-1 hidden
 one_typed = (
   [],
   integer,
@@ -115,6 +117,7 @@ one_typed = (
 )
 
 pub module_is_well_typed : ModuleIsWellTyped
+unfolding roll-Unit roll hidden-the_row-Unit-0 hidden-the_row-Fill-1 hidden
 module_is_well_typed = record {
   types_once = tt;
   values_once = ((λ h. h), tt);
@@ -152,11 +155,12 @@ in_stub = globals_with (globals_of []) (of_higher_kind ∷ [])
 
 no_synonym_there : (n : OrigName) (s : Synonym) → Among n (here_named Types (codes "P") ∷ [])
     → synonyms_of in_stub n ≡ Some s → ⊥
+unfolding roll-Unit roll hidden-the_row-Unit-0 hidden-the_row-Fill-1 hidden
 no_synonym_there n s (inl p) q = none-some s (ap (synonyms_of in_stub) p ∙ q)
 no_synonym_there n s (inr k) q = k
 
 pub stub_is_well_typed : StubIsWellTyped
-unfolding hidden-the_row-Kind-0 hidden
+unfolding hidden-the_row-Kind-0 hidden roll-Unit roll hidden-the_row-Unit-0 hidden-the_row-Fill-1
 stub_is_well_typed = record {
   names_once = ((λ h. h), tt);
   kinding = (_, [], refl, (arrow star star ∷ [], refl, (refl, tt)), refl);

@@ -1,12 +1,10 @@
 -- Small programs that have no derivation.
-use Rattle.std.proofs.Common.{◌≡◌, refl, sym, ap, ◌∙◌, subst, inl, inr, ℕ, Bool, true, false, true≢false, List, [], ◌∷◌, ◌++◌}
+use Rattle.bp_base.specs.declared.ident.Ident.TheViews.{roll-Unit}
+use Rattle.bp_base.specs.declared.ident.Ident.TheBlock.{hidden-the_row-Unit-0, hidden-the_row-Fill-1}
+use Rattle.std.proofs.Common.{◌≡◌, refl, sym, ap, ◌∙◌, subst, inl, ℕ, Bool, true, false, true≢false, List, [], ◌∷◌, ◌++◌}
 use Rattle.std.specs.Prelude.{codes, nat_eq, Option, unwrap_or}
-use Rattle.std.specs.Str.{bytes_eq}
 use Rattle.bp_base.specs.Texts.{Text}
 use Rattle.bp_base.specs.Lists.{Among}
-use Rattle.bp_base.specs.Specials.{special_name}
-use Rattle.bp_base.specs.declared.special.Special.{Special}
-use Rattle.bp_base.specs.declared.special.Special.TheVariants as s
 use Rattle.bp_base.specs.declared.ty.Space.TheVariants.{Types, Values}
 use Rattle.bp_base.specs.declared.ty.OrigName.{OrigName}
 use Rattle.hs_core.specs.declared.tree.Written.TheVariants.{WVar}
@@ -23,7 +21,7 @@ use Rattle.hs_core.specs.LocalGroups.{AllAmong}
 use Rattle.hs_core.specs.Typing.{Kinds, IsTypedDecl, HasType}
 use Rattle.hs_core_laws.specs.Examples.{function_written, returns_argument, uses_at_two_types, ConversionIsNotTyped, LambdaIsNotGeneralised, here_named, maybe, star_to_star, two_kinds, KindsAreKept}
 use Rattle.hs_core_laws.proofs.Deriving.{bare, no_synonym, local_single, local_applied, simply_only, first_typed, expands_itself, argument_of, result_of, integer_character, one_given}
-use denote.Hole.Carrier.{hidden}
+use denote.Hole.Carrier.{hidden, roll}
 
 abbrev named : Text → TypeTerm → Bound
 named x t = record { name = x; type = t }
@@ -109,9 +107,11 @@ abbrev kind_or_star : Option NameMeaning → KindTerm
 kind_or_star o = unwrap_or (kind_in o) star
 
 kind_of_t : (k : KindTerm) → plain_names two_kinds name_t k → arrow star_to_star star ≡ k
+unfolding roll-Unit roll hidden-the_row-Unit-0 hidden-the_row-Fill-1 hidden
 kind_of_t k h = ap kind_or_star h
 
 kind_of_p : (k : KindTerm) → plain_names two_kinds name_p k → arrow star_to_star star_to_star ≡ k
+unfolding roll-Unit roll hidden-the_row-Unit-0 hidden-the_row-Fill-1 hidden
 kind_of_p k h = ap kind_or_star h
 
 abbrev type_of_v : TypeTerm
@@ -121,10 +121,12 @@ abbrev result_of_p : TypeTerm
 result_of_p = app (app (con name_p) (var 0)) (var 1)
 
 declared_v : (d : TypeTerm) → HasDeclared two_kinds (here_named Values (codes "v")) d → d ≡ type_of_v
+unfolding roll-Unit roll hidden-the_row-Unit-0 hidden-the_row-Fill-1 hidden
 declared_v d h = sym (ap (λ o. unwrap_or o type_of_v) h)
 
 declared_p : (d : TypeTerm) → HasDeclared two_kinds (here_named Values (codes "P")) d
     → d ≡ function (app (var 0) (var 1)) result_of_p
+unfolding roll-Unit roll hidden-the_row-Unit-0 hidden-the_row-Fill-1 hidden
 declared_p d h = sym (ap (λ o. unwrap_or o type_of_v) h)
 
 -- the kind of the first parameter of P in the constructor's type

@@ -9,7 +9,7 @@ use Rattle.hs_core.specs.declared.tree.Decl.TheViews.{roll-Rhs}
 use Rattle.hs_core.specs.declared.tree.Decl.TheBlock.{hidden-the_row-Decl-2, hidden-the_row-Guard-4, hidden-the_row-Choice-5}
 use Rattle.hs_core.specs.Types.{TypeTerm, function, integer, any, variables, written_term}
 use Rattle.hs_core.specs.Expansion.{Expands}
-use Rattle.hs_core.specs.Expansion.Expands.{name, application}
+use Rattle.hs_core.specs.Expansion.Expands.{application}
 use Rattle.hs_core.specs.Schemes.{Bound, monotype}
 use Rattle.hs_core.specs.Globals.{synonyms_of}
 use Rattle.hs_core.specs.FreeNames.{local_decl}
@@ -17,7 +17,7 @@ use Rattle.hs_core.specs.LocalGroups.{GroupTyping, MeetsSignature}
 use Rattle.hs_core.specs.Typing.{IsTypedDecl}
 use Rattle.hs_core.specs.WellTyped.{typed_in}
 use Rattle.hs_core_laws.specs.Examples.{int_written, function_written, zero_clause, guarded_clause, ClausesAreTyped}
-use Rattle.hs_core_laws.proofs.Deriving.{bare, no_synonym, extends_nothing, simply_has, integer_kind, function_kind, single_instance}
+use Rattle.hs_core_laws.proofs.Deriving.{bare, bare_name, extends_nothing, simply_has, integer_kind, function_kind, single_instance}
 use Rattle.hs_core_laws.proofs.Derivations.{stars, of_stars, declared_stars, only_one}
 use denote.Hole.Carrier.{hidden, roll}
 
@@ -37,8 +37,8 @@ pub written_function : Expands (synonyms_of bare)
     (written_term (variables (function_written int_written int_written)) (function_written int_written int_written))
     (function integer integer)
 unfolding hidden-the_row-Written-0 hidden
-written_function = application _ _ _ _ (application _ _ _ _ (name _ (no_synonym _)) (name _ (no_synonym _)))
-    (name _ (no_synonym _))
+written_function = application _ _ _ _ (application _ _ _ _ (bare_name _) (bare_name _))
+    (bare_name _)
 
 zero_typed : IsTypedDecl bare any zero_clause stars [] bound
 zero_typed = (

@@ -1,9 +1,10 @@
 -- Small facts of patterns, annotations, kinds, expansion and matching.
+use Rattle.bp_base.specs.declared.ident.Ident.TheViews.{roll-Unit}
+use Rattle.bp_base.specs.declared.ident.Ident.TheBlock.{hidden-the_row-Unit-0, hidden-the_row-Fill-1}
 use Rattle.std.proofs.Common.{◌≡◌, refl, sym, ap, ◌∙◌, subst, inl, inr, ℕ, suc, Bool, true, false, true≢false, not, ◌&&◌, ◌||◌, List, [], ◌∷◌, ◌++◌, eq-eqb, arith}
 use Rattle.std.specs.Prelude.{codes, nat_eq, Option, Some, None}
 use Rattle.std.specs.Str.{bytes_eq}
 use Rattle.bp_base.specs.Specials.{special_name}
-use Rattle.bp_base.specs.declared.special.Special.{Special}
 use Rattle.bp_base.specs.declared.special.Special.TheVariants as s
 use Rattle.bp_base.specs.declared.ty.Space.TheVariants.{Values}
 use Rattle.bp_base.specs.declared.ty.OrigName.{OrigName}
@@ -26,7 +27,7 @@ use Rattle.hs_core.specs.Typing.{HasType}
 use Rattle.hs_core.specs.Matching.{PassAll}
 use Rattle.hs_core_laws.specs.Examples.{base_ty, value_of, exported_value, string_name, star_to_star, StringExpands, ValuesMatch, ArgumentsAreCounted, RigidVariablesStay, KindsAreLeast}
 use Rattle.hs_core_laws.proofs.Deriving.{bare, no_synonym, local_single, expands_itself}
-use denote.Hole.Carrier.{hidden}
+use denote.Hole.Carrier.{hidden, roll}
 
 abbrev pub has_occ : List ℕ → OrigName → Bool
 has_occ x n = bytes_eq n.occ x
@@ -36,6 +37,7 @@ con_has_occ x (con n) = has_occ x n
 con_has_occ x t = false
 
 pub string_expands : StringExpands
+unfolding roll-Unit roll hidden-the_row-Unit-0 hidden-the_row-Fill-1 hidden
 string_expands = body_for string_name (record { params = 0; body = list_of character }) [] [] _ _ refl refl refl none
     (application _ _ _ _ (name _ refl) (name _ refl))
 
@@ -97,6 +99,7 @@ fields_in (Some (constructor_name c)) = c.fields
 
 cons_fields : (c : Constructor) → HasConstructor bare (special_name Values s.Cons) c
     → var 0 ∷ list_of (var 0) ∷ [] ≡ c.fields
+unfolding roll-Unit roll hidden-the_row-Unit-0 hidden-the_row-Fill-1 hidden
 cons_fields c h = ap fields_in h
 
 pub arguments_are_counted : ArgumentsAreCounted

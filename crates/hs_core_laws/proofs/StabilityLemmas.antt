@@ -1,14 +1,10 @@
 -- A typing stays one where names of types stand for closed types.
-use Rattle.std.proofs.Common.{◌≡◌, refl, sym, ap, ap₂, ◌∙◌, subst, inl, inr, ℕ, zero, suc, Bool, true, false, not, ◌&&◌, ◌||◌, cond, true≢false, List, [], ◌∷◌, ◌++◌, map, filter, length, replicate}
+use Rattle.std.proofs.Common.{◌≡◌, refl, sym, ap, ap₂, ◌∙◌, subst, inl, inr, ℕ, zero, suc, Bool, true, false, not, ◌&&◌, ◌||◌, cond, List, [], ◌∷◌, ◌++◌, map, filter}
 use Rattle.std.proofs.lemmas.List.{map-append}
-use Rattle.std.specs.Prelude.{codes, ◌⊎◌, ◌≢◌}
 use Rattle.std.proofs.Math.Path.{fun_ext}
 use Rattle.bp_base.specs.Texts.{Text}
 use Rattle.bp_base.specs.Lists.{Among, is_among}
-use Rattle.bp_base.specs.Specials.{special_name}
 use Rattle.bp_base.specs.declared.special.Special.TheVariants as s
-use Rattle.bp_base.specs.declared.ty.Space.TheVariants.{Types}
-use Rattle.bp_base.specs.declared.ty.OrigName.{OrigName}
 use Rattle.hs_core.specs.declared.group.IndexGroup.{IndexGroup}
 use Rattle.hs_core.specs.declared.tree.Written.{Written}
 use Rattle.hs_core.specs.declared.tree.Pat.{Pat}
@@ -24,16 +20,15 @@ use Rattle.hs_core.specs.declared.tree.Guard.TheVariants.{Test, Bind}
 use Rattle.hs_core.specs.declared.tree.Alt.{Alt, Alt'}
 use Rattle.hs_core.specs.declared.tree.Decl.TheBlock.{Row_of-Choice, end_of-Choice, more_of-Choice, Row_of-Decl, end_of-Decl, more_of-Decl, Row_of-Guard, end_of-Guard, more_of-Guard, Row_of-Exp, end_of-Exp, more_of-Exp, Row_of-Alt, end_of-Alt, more_of-Alt}
 use Rattle.type_terms.specs.Terms.{var, con, app, occurs_in, applied}
-use Rattle.hs_core.specs.Types.{KindTerm, star, arrow, TypeTerm, TypeAssignment, any, integer, character, boolean, function, functions, list_of, tuple_of, special_type, applied_to, count, variables, written_term}
-use Rattle.hs_core.specs.Kinds.{NameKinds, HasKind, AreLeast}
-use Rattle.hs_core.specs.Expansion.{Expands}
+use Rattle.hs_core.specs.Types.{KindTerm, star, arrow, TypeTerm, TypeAssignment, any, character, boolean, function, functions, list_of, tuple_of, special_type, applied_to, count}
+use Rattle.hs_core.specs.Kinds.{HasKind}
 use Rattle.hs_core.specs.Schemes.{TypeScheme, IsInstance, IsDeclared, Assumption, Bound, Selects, monotype, monomorphic, free_in, generalised, IsRigid, Agree}
-use Rattle.hs_core.specs.Globals.{Constructor, Globals, plain_names, synonyms_of, HasDeclared, HasConstructor}
+use Rattle.hs_core.specs.Globals.{Constructor, Globals, plain_names}
 use Rattle.hs_core.specs.WellTyped.{typed_in}
 use Rattle.hs_core_laws.specs.Stability.{Replacement, replaced_names, replaced_scheme, replaced_assumption, replaced_environment, replaced_bound, replaced_constructor, Follows, ExpressionsStayTyped, DeclarationsStayTyped, BindingsStayTyped}
-use Rattle.hs_core.specs.FreeNames.{Signed, LocalDecl, local_decls, all_signed, signed_names, uses}
+use Rattle.hs_core.specs.FreeNames.{Signed, LocalDecl, local_decls, all_signed, signed_names}
 use Rattle.hs_core.specs.LocalGroups.{IsTyped, HasScheme, HaveSchemes, names_bound, unsigned, AllAmong, AllTyped, GroupTyping, MeetsSignature, IsGroupTyped, GroupAfterGroup, Extends}
-use Rattle.hs_core.specs.Typing.{Kinds, IsProperType, IsBuilt, AllAre, Binds, BindAll, BindEach, IsAsWritten, HasType, HaveTypes, HaveAlternatives, IsAlternative, IsRightSide, HaveChoices, GuardsBind, IsGuard, IsTypedDecl, IsTypedAt}
+use Rattle.hs_core.specs.Typing.{Kinds, IsProperType, IsBuilt, AllAre, Binds, BindAll, BindEach, HasType, HaveTypes, HaveAlternatives, IsAlternative, IsRightSide, HaveChoices, GuardsBind, IsGuard, IsTypedDecl, IsTypedAt}
 
 -- ---- lists
 map-map : {A B C : Type 0} (g : B → C) (f : A → B) (h : A → C) → ((x : A) → g (f x) ≡ h x) → (xs : List A)

@@ -1,5 +1,5 @@
 -- Small programs, and what the definitions say of them.
-use Rattle.std.specs.Prelude.{◌≡◌, List, [], ◌∷◌, ◌++◌, Some, None, codes, false, if◌then◌else◌}
+use Rattle.std.specs.Prelude.{List, [], ◌∷◌, ◌++◌, Some, None, codes, false, if◌then◌else◌}
 use Rattle.bp_base.specs.Texts.{Text}
 use Rattle.bp_base.specs.Specials.{base_prelude, special_name}
 use Rattle.bp_base.specs.declared.special.Special.TheVariants as s

@@ -4,7 +4,6 @@ use Rattle.std.specs.Prelude.{◌≡◌, List, [], ◌∷◌, codes, false, Some
 use Rattle.bp_base.specs.Texts.{Text}
 use Rattle.bp_base.specs.Specials.{special_name}
 use Rattle.bp_base.specs.declared.special.Special.TheVariants as s
-use Rattle.bp_base.specs.declared.ident.Ident.{Ident}
 use Rattle.bp_base.specs.declared.ident.Ident.TheVariants.{Module}
 use Rattle.bp_base.specs.declared.ident.Ident.TheViews.{roll-Unit}
 use Rattle.bp_base.specs.declared.ty.Space.TheVariants.{Types, Values}
@@ -29,7 +28,7 @@ use Rattle.hs_core.specs.Sameness.{same_original}
 use Rattle.hs_core.specs.Types.{star, TypeTerm, any, within, function, integer, list_of}
 use Rattle.hs_core.specs.Kinds.{IsKindOf}
 use Rattle.hs_core.specs.Expansion.{Synonyms, Expands}
-use Rattle.hs_core.specs.Globals.{Globals, globals_of, kinds_of, negate}
+use Rattle.hs_core.specs.Globals.{globals_of, kinds_of, negate}
 use Rattle.hs_core.specs.Typing.{HasType}
 use Rattle.hs_core.specs.WellTyped.{HasDeclaredTypes, AreWellTyped, bindings_of}
 use Rattle.hs_core.specs.Stubs.{IsWellTypedStub}
