@@ -14,11 +14,11 @@ use Rattle.bp_base.specs.Lists.{Among}
 use Rattle.hs_core.specs.declared.group.UseList.{UseList}
 use Rattle.hs_core.specs.declared.group.IndexGroup.{IndexGroup}
 use Rattle.hs_core.specs.declared.group.Walked.{Walked}
-use Rattle.hs_core.specs.Groups.{uses_at, InRange, Together, indices, Ends, IsGroupOf, Grouped}
+use Rattle.hs_core.specs.Groups.{uses_at, InRange, Together, indices, DepthFirst, IsGroupOf, Grouped}
 use Rattle.hs_core.specs.Groups.Grouped.{none, inner, last}
 use Rattle.hs_core.specs.Walking.{IsAtRest, AreBelow, IsTurnedBelow, IsTurned, IsUsedBy, IsRising, IsGathered, IsGathering}
 use Rattle.bp_base.proofs.Sets.{among-left, among-right, among-either}
-use Rattle.hs_core.proofs.Reaching.{among-one, among-indices, indices-below, Path, Path-less, Path-reaches, Path-start, Path-end, Path-turned, Together-itself, Together-turned, Together-trans, Reaches-turned, shut-reaches, Stands, AllStand, Grown, grown, stands-at, climbs}
+use Rattle.hs_core.proofs.Reaching.{among-one, among-indices, indices-below, Path, Path-less, Path-reaches, Path-start, Path-end, Path-turned, Together-itself, Together-turned, Together-trans, Reaches-turned, shut-reaches, IsProperType, AllStand, Grown, grown, stands-at, climbs}
 use Rattle.hs_core.proofs.Pending.{true-not-false}
 
 -- ---- the numbers of a list, rising
@@ -183,7 +183,7 @@ pub gathering-end : (g h : List UseList) (order left : List ℕ) (walked : Walke
     → Grouped g order (reverse groups)
 gathering-end g h order left walked groups w e = subst (λ (o : List ℕ). Grouped g o (reverse groups)) (sym (w.is ∙ ap (λ (l : List ℕ). l ++ w.past) e)) w.grouped
 
-module _ (g h : List UseList) (order : List ℕ) (r : InRange g) (whole : Ends g [] [] (indices (length g)) order) (turned : IsTurned g h) where
+module _ (g h : List UseList) (order : List ℕ) (r : InRange g) (whole : DepthFirst g [] [] (indices (length g)) order) (turned : IsTurned g h) where
   all-grown : Grown g [] [] (indices (length g)) order
   all-grown = grown g [] [] (indices (length g)) order whole (λ u t a m. absurd a)
 
@@ -202,7 +202,7 @@ module _ (g h : List UseList) (order : List ℕ) (r : InRange g) (whole : Ends g
     pub next-below : v < length g
     next-below = order-below v (subst (λ (o : List ℕ). Among v o) (sym split) (among-right v now (v ∷ w.past) (inl refl)))
 
-    stands : Stands g [] now v w.past
+    stands : IsProperType g [] now v w.past
     stands = stands-at g [] [] now v w.past (subst (λ (o : List ℕ). AllStand g [] [] o) (sym all-grown.is ∙ split) all-grown.stand)
 
     pub gathering-later : get_or walked.begun v false ≡ true → IsGathering g h order now walked groups

@@ -1,11 +1,6 @@
 pub mod Reaching
 pub mod Pending
 pub mod Grouping
-mod Deriving
-mod Derivations
-mod Refuting
-mod Smaller
-mod SeveralClauses
 pub mod Names
 pub mod Patterns
 pub mod Trees
@@ -15,3 +10,6 @@ pub mod Nothing
 pub mod TreesNothing
 pub mod Sides
 pub mod OneGrouping
+pub mod ExpansionLemmas
+pub mod SamenessLemmas
+pub mod GlobalsLemmas

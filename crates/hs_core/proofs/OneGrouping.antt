@@ -10,8 +10,8 @@ use Rattle.bp_base.specs.Lists.{Among}
 use Rattle.bp_base.specs.Lists.{IsNew}
 use Rattle.hs_core.specs.declared.group.UseList.{UseList}
 use Rattle.hs_core.specs.declared.group.IndexGroup.{IndexGroup}
-use Rattle.hs_core.specs.Groups.{uses_at, indices, Ends, IsGroupOf, Grouped, GroupsAreOne}
-use Rattle.hs_core.specs.Groups.Ends.{ended, met, visited}
+use Rattle.hs_core.specs.Groups.{uses_at, indices, DepthFirst, IsGroupOf, Grouped, GroupsAreOne}
+use Rattle.hs_core.specs.Groups.DepthFirst.{ended, met, visited}
 use Rattle.hs_core.specs.Groups.Grouped.{none, inner, last}
 
 module _ (g : List UseList) where
@@ -20,22 +20,22 @@ module _ (g : List UseList) where
   not-both path done v (inr p) k = k.1 p
 
   -- a walk is done with its numbers in one order
-  Ends-one : (path done todo new other : List ℕ) → Ends g path done todo new → Ends g path done todo other → new ≡ other
-  Ends-one path done todo new other (ended _ _) w = end path done other w
+  DepthFirst-one : (path done todo new other : List ℕ) → DepthFirst g path done todo new → DepthFirst g path done todo other → new ≡ other
+  DepthFirst-one path done todo new other (ended _ _) w = end path done other w
     where
-      end : (path done other : List ℕ) → Ends g path done [] other → done ≡ other
+      end : (path done other : List ℕ) → DepthFirst g path done [] other → done ≡ other
       end path done other (ended _ _) = refl
-  Ends-one path done todo new other (met _ _ v rest _ m w) x = go x (λ y. Ends-one path done rest new other w y)
+  DepthFirst-one path done todo new other (met _ _ v rest _ m w) x = go x (λ y. DepthFirst-one path done rest new other w y)
     where
-      go : Ends g path done (v ∷ rest) other → (Ends g path done rest other → new ≡ other) → new ≡ other
+      go : DepthFirst g path done (v ∷ rest) other → (DepthFirst g path done rest other → new ≡ other) → new ≡ other
       go (met _ _ _ _ _ k y) h = h y
       go (visited _ _ _ _ _ mid k y z) h = absurd (not-both path done v m k)
-  Ends-one path done todo new other (visited _ _ v rest _ mid k b w) x =
-      go x (λ m u. Ends-one (v ∷ path) done (uses_at g v) mid m b u) (λ u. Ends-one path (mid ++ v ∷ []) rest new other w u)
+  DepthFirst-one path done todo new other (visited _ _ v rest _ mid k b w) x =
+      go x (λ m u. DepthFirst-one (v ∷ path) done (uses_at g v) mid m b u) (λ u. DepthFirst-one path (mid ++ v ∷ []) rest new other w u)
     where
-      go : Ends g path done (v ∷ rest) other → ((m : List ℕ) → Ends g (v ∷ path) done (uses_at g v) m → mid ≡ m) → (Ends g path (mid ++ v ∷ []) rest other → new ≡ other) → new ≡ other
+      go : DepthFirst g path done (v ∷ rest) other → ((m : List ℕ) → DepthFirst g (v ∷ path) done (uses_at g v) m → mid ≡ m) → (DepthFirst g path (mid ++ v ∷ []) rest other → new ≡ other) → new ≡ other
       go (met _ _ _ _ _ m y) f h = absurd (not-both path done v m k)
-      go (visited _ _ _ _ _ m l y z) f h = h (subst (λ (n : List ℕ). Ends g path (n ++ v ∷ []) rest other) (sym (f m y)) z)
+      go (visited _ _ _ _ _ m l y z) f h = h (subst (λ (n : List ℕ). DepthFirst g path (n ++ v ∷ []) rest other) (sym (f m y)) z)
 
   below-all : (x : ℕ) (xs : List ℕ) (w : ℕ) → AllByRecursion (λ y. nat_cmp x y ≡ Less) xs → Among w xs → x < w
   below-all x [] w b a = absurd a
@@ -88,5 +88,5 @@ module _ (g : List UseList) where
 
 pub groups-are-one : GroupsAreOne
 groups-are-one g p q s t =
-    let e = Ends-one g [] [] (indices (length g)) s.order t.order s.walk t.walk in
+    let e = DepthFirst-one g [] [] (indices (length g)) s.order t.order s.walk t.walk in
     Grouped-one g t.order p q (subst (λ (o : List ℕ). Grouped g o p) e s.grouped) t.grouped

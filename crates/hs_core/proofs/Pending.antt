@@ -9,8 +9,8 @@ use Rattle.hs_core.specs.declared.group.UseList.{UseList}
 use Rattle.hs_core.specs.declared.group.Walked.{Walked}
 use Rattle.hs_core.specs.declared.group.Step.{Step}
 use Rattle.hs_core.specs.declared.group.Step.TheVariants.{Enter, Leave}
-use Rattle.hs_core.specs.Groups.{uses_at, InRange, Ends}
-use Rattle.hs_core.specs.Groups.Ends.{ended, met, visited}
+use Rattle.hs_core.specs.Groups.{uses_at, InRange, DepthFirst}
+use Rattle.hs_core.specs.Groups.DepthFirst.{ended, met, visited}
 use Rattle.hs_core.specs.Walking.{enters, path_of, Leads, IsMarked, IsAtRest, AreBelow, IsStep, IsOnWay, IsWalk}
 use Rattle.hs_core.specs.Walking.IsStep.{again, begins, leaves}
 use Rattle.bp_base.proofs.Sets.{among-left, among-right, among-either}
@@ -36,20 +36,20 @@ leave-not-enter : (v w : ℕ) → Leave v ≡ Enter w → ⊥
 leave-not-enter v w e = cc
 
 module _ (g : List UseList) where
-  nothing-ends : (path done mid : List ℕ) (vs new : List ℕ) → Ends g path done [] mid → Ends g path mid vs new → Ends g path done vs new
+  nothing-ends : (path done mid : List ℕ) (vs new : List ℕ) → DepthFirst g path done [] mid → DepthFirst g path mid vs new → DepthFirst g path done vs new
   nothing-ends path done mid vs new (ended _ _) w = w
 
-  one-ends : (path done : List ℕ) (v : ℕ) (mid vs new : List ℕ) → Ends g path done (v ∷ []) mid → Ends g path mid vs new → Ends g path done (v ∷ vs) new
+  one-ends : (path done : List ℕ) (v : ℕ) (mid vs new : List ℕ) → DepthFirst g path done (v ∷ []) mid → DepthFirst g path mid vs new → DepthFirst g path done (v ∷ vs) new
   one-ends path done v mid vs new (met _ _ _ _ _ k e) w = met path done v vs new k (nothing-ends path done mid vs new e w)
   one-ends path done v mid vs new (visited _ _ _ _ _ below k b e) w = visited path done v vs new below k b (nothing-ends path (below ++ v ∷ []) mid vs new e w)
 
   -- numbers to be begun, one after another, are a list that a walk goes through
   pub enters-lead : (vs : List ℕ) (steps : List Step) (done new : List ℕ) → Leads g (enters vs ++ steps) done new
-      → (mid : List ℕ) × Ends g (path_of steps) done vs mid × Leads g steps mid new
+      → (mid : List ℕ) × DepthFirst g (path_of steps) done vs mid × Leads g steps mid new
   enters-lead [] steps done new l = (done, ended (path_of steps) done, l)
   enters-lead (v ∷ vs) steps done new l =
       let r = enters-lead vs steps l.0 new l.2 in
-      (r.0, one-ends (path_of steps) done v l.0 vs r.0 (subst (λ (p : List ℕ). Ends g p done (v ∷ []) l.0) (path-enters vs steps) l.1) r.1, r.2)
+      (r.0, one-ends (path_of steps) done v l.0 vs r.0 (subst (λ (p : List ℕ). DepthFirst g p done (v ∷ []) l.0) (path-enters vs steps) l.1) r.1, r.2)
 
   -- ---- marks
 
@@ -104,7 +104,7 @@ module _ (g : List UseList) where
         w.leads n (
           s.0 ++ v ∷ [],
           visited (path_of steps) walked.done v [] (s.0 ++ v ∷ []) s.0 fresh
-              (subst (λ (d : List ℕ). Ends g (v ∷ path_of steps) d (uses_at g v) s.0) ed s.1) (ended (path_of steps) (s.0 ++ v ∷ [])),
+              (subst (λ (d : List ℕ). DepthFirst g (v ∷ path_of steps) d (uses_at g v) s.0) ed s.1) (ended (path_of steps) (s.0 ++ v ∷ [])),
           s.2,
         );
   })
@@ -125,10 +125,10 @@ module _ (g : List UseList) where
     size = r.size;
     below = λ u a. elim (among-either (Enter u) (enters starts) [] a) [ inl h ↦ b u (among-enters u starts h) | inr h ↦ absurd h ];
     marked = subst (λ (x : List ℕ). IsMarked walked.begun x walked.done) (sym (path-enters starts [])) r.marked;
-    leads = λ n l. let s = enters-lead starts [] walked.done n l in subst (λ (x : List ℕ). Ends g [] walked.done starts x) s.2 s.1;
+    leads = λ n l. let s = enters-lead starts [] walked.done n l in subst (λ (x : List ℕ). DepthFirst g [] walked.done starts x) s.2 s.1;
   })
 
-  ends-longer : (path done todo new : List ℕ) → Ends g path done todo new → length done ≤ length new
+  ends-longer : (path done todo new : List ℕ) → DepthFirst g path done todo new → length done ≤ length new
   ends-longer path done todo new (ended _ _) = omega arith
   ends-longer path done todo new (met _ _ v rest _ k w) = ends-longer path done rest new w
   ends-longer path done todo new (visited _ _ v rest _ mid k b w) =

@@ -6,9 +6,9 @@ use Rattle.bp_base.specs.Lists.{Among}
 use Rattle.bp_base.specs.Lists.{IsNew}
 use Rattle.bp_base.proofs.Sets.{among-left, among-right, among-either}
 use Rattle.hs_core.specs.declared.group.UseList.{UseList}
-use Rattle.hs_core.specs.Groups.{uses_at, InRange, Reaches, Together, indices, Ends}
+use Rattle.hs_core.specs.Groups.{uses_at, InRange, Reaches, Together, indices, DepthFirst}
 use Rattle.hs_core.specs.Groups.Reaches.{here, along}
-use Rattle.hs_core.specs.Groups.Ends.{ended, met, visited}
+use Rattle.hs_core.specs.Groups.DepthFirst.{ended, met, visited}
 use Rattle.hs_core.specs.Walking.{AreBelow, IsTurned}
 
 -- ---- items of lists
@@ -98,7 +98,7 @@ shut-reaches g done s v z (here _) a = a
 shut-reaches g done s v z (along _ w _ m p) a = shut-reaches g done s w z p (elim (s v w a m) [ inl b ↦ b | inr b ↦ absurd b ])
 
 -- a number with those done before and after it: what was done when it began, and what it leads to
-pub record Stands (g : List UseList) (path before : List ℕ) (v : ℕ) (rest : List ℕ) : Type 0 where
+pub record IsProperType (g : List UseList) (path before : List ℕ) (v : ℕ) (rest : List ℕ) : Type 0 where
   pub old : List ℕ
   pub below : List ℕ
   pub is : before ≡ old ++ below
@@ -108,7 +108,7 @@ pub record Stands (g : List UseList) (path before : List ℕ) (v : ℕ) (rest : 
 
 abbrev pub AllStand : List UseList → List ℕ → List ℕ → List ℕ → Type 0
 AllStand g path before [] = Unit {0}
-AllStand g path before (v ∷ rest) = Stands g path before v rest × AllStand g path (before ++ v ∷ []) rest
+AllStand g path before (v ∷ rest) = IsProperType g path before v rest × AllStand g path (before ++ v ∷ []) rest
 
 -- what a walk adds
 pub record Grown (g : List UseList) (path done todo new : List ℕ) : Type 0 where
@@ -121,8 +121,8 @@ pub record Grown (g : List UseList) (path done todo new : List ℕ) : Type 0 whe
 
 module _ (g : List UseList) where
   -- v is done behind what lies below it
-  Stands-wider : (path before : List ℕ) (v w : ℕ) (rest tail : List ℕ) → Stands g (v ∷ path) before w rest → Stands g path before w (rest ++ v ∷ tail)
-  Stands-wider path before v w rest tail s = record {
+  IsProperType-wider : (path before : List ℕ) (v w : ℕ) (rest tail : List ℕ) → IsProperType g (v ∷ path) before w rest → IsProperType g path before w (rest ++ v ∷ tail)
+  IsProperType-wider path before v w rest tail s = record {
     old = s.old;
     below = s.below;
     is = s.is;
@@ -137,7 +137,7 @@ module _ (g : List UseList) where
   AllStand-wider : (path before : List ℕ) (v : ℕ) (more tail : List ℕ) → AllStand g (v ∷ path) before more → AllStand g path (before ++ more) (v ∷ tail) → AllStand g path before (more ++ v ∷ tail)
   AllStand-wider path before v [] tail s r = subst (λ (b : List ℕ). AllStand g path b (v ∷ tail)) (append-nil before) r
   AllStand-wider path before v (w ∷ more) tail s r = (
-    Stands-wider path before v w more tail s.0,
+    IsProperType-wider path before v w more tail s.0,
     AllStand-wider path (before ++ w ∷ []) v more tail s.1 (subst (λ (b : List ℕ). AllStand g path b (v ∷ tail)) (sym (append_assoc before (w ∷ []) more)) r),
   )
 
@@ -178,7 +178,7 @@ module _ (g : List UseList) where
         arrives t (inl e) = inl (subst (λ (n : List ℕ). Among t n) (sym r.is) (among-left t (mid ++ v ∷ []) r.more (among-right t mid (v ∷ []) (inl e))))
         arrives t (inr a) = r.arrives t a
 
-        standing : Stands g path (done ++ b.more) v r.more
+        standing : IsProperType g path (done ++ b.more) v r.more
         standing = record {
           old = done;
           below = b.more;
@@ -188,7 +188,7 @@ module _ (g : List UseList) where
           shut = λ u t a m. elim (s u t a m) [ inl h ↦ inl (inl h) | inr h ↦ inr h ];
         }
 
-  pub grown : (path done todo new : List ℕ) → Ends g path done todo new → Shut g path done → Grown g path done todo new
+  pub grown : (path done todo new : List ℕ) → DepthFirst g path done todo new → Shut g path done → Grown g path done todo new
   grown path done todo new (ended _ _) s = record {
     more = [];
     is = sym (append-nil done);
@@ -217,13 +217,13 @@ module _ (g : List UseList) where
       visit path done v rest mid new k s below (grown path (mid ++ v ∷ []) rest new w (visit-shut path done v rest mid new k s below))
 
   -- the numbers before, of a number in the list
-  pub stands-at : (path before front : List ℕ) (v : ℕ) (rest : List ℕ) → AllStand g path before (front ++ v ∷ rest) → Stands g path (before ++ front) v rest
-  stands-at path before [] v rest s = subst (λ (b : List ℕ). Stands g path b v rest) (sym (append-nil before)) s.0
+  pub stands-at : (path before front : List ℕ) (v : ℕ) (rest : List ℕ) → AllStand g path before (front ++ v ∷ rest) → IsProperType g path (before ++ front) v rest
+  stands-at path before [] v rest s = subst (λ (b : List ℕ). IsProperType g path b v rest) (sym (append-nil before)) s.0
   stands-at path before (w ∷ front) v rest s =
-      subst (λ (b : List ℕ). Stands g path b v rest) (append_assoc before (w ∷ []) front) (stands-at path (before ++ w ∷ []) front v rest s.1)
+      subst (λ (b : List ℕ). IsProperType g path b v rest) (append_assoc before (w ∷ []) front) (stands-at path (before ++ w ∷ []) front v rest s.1)
 
   -- a path that meets nothing that is done later stays in what was done before
-  climb : (before : List ℕ) (v : ℕ) (rest : List ℕ) (s : Stands g [] before v rest) (w z : ℕ) → Path g rest w z → Among w s.old → Among z s.old
+  climb : (before : List ℕ) (v : ℕ) (rest : List ℕ) (s : IsProperType g [] before v rest) (w z : ℕ) → Path g rest w z → Among w s.old → Among z s.old
   climb before v rest s w z (stop _ _) a = a
   climb before v rest s w z (step _ t _ k m p) a = climb before v rest s t z p (elim (s.shut w t a m) [
     | inl h ↦ elim h [ inl b ↦ b | inr b ↦ absurd (Path-first g rest t z p b) ]
@@ -231,7 +231,7 @@ module _ (g : List UseList) where
   ])
 
   -- what reaches a number without what is done later is reached from it
-  pub climbs : (before : List ℕ) (v : ℕ) (rest : List ℕ) → Stands g [] before v rest → (w : ℕ) → Path g rest w v → Among w (before ++ v ∷ rest) → Reaches g v w
+  pub climbs : (before : List ℕ) (v : ℕ) (rest : List ℕ) → IsProperType g [] before v rest → (w : ℕ) → Path g rest w v → Among w (before ++ v ∷ rest) → Reaches g v w
   climbs before v rest s w p a = elim (among-either w before (v ∷ rest) a) [
     | inl h ↦ elim (among-either w s.old s.below (subst (λ (b : List ℕ). Among w b) s.is h)) [
       | inl b ↦ absurd (s.new (climb before v rest s w v p b))

@@ -9,7 +9,6 @@ use Rattle.bp_base.specs.declared.ident.Ident.TheVariants.{Hole, Module, Module'
 use Rattle.bp_base.specs.declared.ident.Ident.TheBlock.{end_of-Unit, more_of-Unit}
 use Rattle.bp_base.specs.declared.ty.OrigName.{OrigName}
 use Rattle.bp_base.specs.declared.ty.Space.{Space}
-use Rattle.bp_base.specs.declared.ty.Space.TheVariants.{Types, Values}
 use Rattle.bp_base.specs.declared.ty.Ty.{Ty}
 use Rattle.bp_base.specs.declared.ty.Ty.TheVariants.{Var, Con, App, App'}
 use Rattle.bp_base.specs.declared.ty.Ty.TheBlock.{end_of-Ty, more_of-Ty}
@@ -22,7 +21,10 @@ use Rattle.unit_identity.proofs.Fills.{filled_unit-filled_unit}
 use Rattle.hs_core.specs.declared.tree.Written.{Written}
 use Rattle.hs_core.specs.declared.tree.Written.TheVariants.{WVar, WCon, WApp, WApp'}
 use Rattle.hs_core.specs.declared.tree.Written.TheBlock.{end_of-Written, more_of-Written}
-use Rattle.hs_core.specs.Rename.{same_space, is_for, shown_for, renamed_at, renamed_name, renamed_ty, renamed_written, composed_shown, composed_renaming}
+use Rattle.std.proofs.lemmas.Bool.{and_parts}
+use Rattle.hs_core.specs.Sameness.{same_space}
+use Rattle.hs_core.proofs.SamenessLemmas.{space_same}
+use Rattle.hs_core.specs.Rename.{is_for, shown_for, renamed_at, renamed_name, renamed_ty, renamed_written, composed_shown, composed_renaming}
 use Rattle.hs_core.specs.Occurring.{names_of_ty, names_of_written}
 use Rattle.hs_core.specs.RenameLaws.{IsCovered, Covers}
 use Rattle.hs_core.proofs.Names.{at-Module, at-App, at-WApp}
@@ -43,16 +45,6 @@ covers-tail by n ns c = record { each = λ o m. c.each o (inr m) }
 
 -- ---- a renamed name keeps its space and its occurrence
 
-spaces-same : (s t : Space) → same_space s t ≡ true → s ≡ t
-spaces-same Types Types e = refl
-spaces-same Values Values e = refl
-spaces-same Types Values e = cc
-spaces-same Values Types e = cc
-
-both : (a b : Bool) → (a && b) ≡ true → (a ≡ true) × (b ≡ true)
-both true b e = (refl, e)
-both false b e = cc
-
 abbrev Keeps : Space → Text → OrigName → Type 0
 Keeps space occ n = (n.space ≡ space) × (n.occ ≡ occ)
 
@@ -61,9 +53,9 @@ shown-keeps h space occ [] = (refl, refl)
 shown-keeps h space occ (s ∷ all) = by (is_for h space occ s) refl (shown-keeps h space occ all)
   where
     found : is_for h space occ s ≡ true → Keeps space occ s.name
-    found e = let two = both (bytes_eq s.hole h) (same_space s.name.space space && bytes_eq s.name.occ occ) e in
-        let parts = both (same_space s.name.space space) (bytes_eq s.name.occ occ) two.1 in
-        (spaces-same s.name.space space parts.0, same_texts s.name.occ occ parts.1)
+    found e = let two = and_parts (bytes_eq s.hole h) (same_space s.name.space space && bytes_eq s.name.occ occ) e in
+        let parts = and_parts (same_space s.name.space space) (bytes_eq s.name.occ occ) two.1 in
+        (space_same s.name.space space parts.0, same_texts s.name.occ occ parts.1)
 
     by : (b : Bool) → is_for h space occ s ≡ b → Keeps space occ (unwrap_or (shown_for h space occ all) (record { at = Hole h; space = space; occ = occ })) → Keeps space occ (unwrap_or (cond b (Some s.name) (shown_for h space occ all)) (record { at = Hole h; space = space; occ = occ }))
     by true e k = found e

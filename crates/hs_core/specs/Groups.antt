@@ -31,11 +31,11 @@ indices (suc n) = indices n ++ n ∷ []
 
 -- A depth-first walk. With the numbers of `path` begun and those of `done` done, going through a list leaves these done, in this
 -- order. A number that is begun is not begun again; it is done once all that it uses, in order, has been gone through.
-pub data Ends (g : List UseList) : List ℕ → List ℕ → List ℕ → List ℕ → Type 0 where
-  ended : (path done : List ℕ) → Ends g path done [] done
-  met : (path done : List ℕ) (v : ℕ) (todo new : List ℕ) → Among v done ⊎ Among v path → Ends g path done todo new → Ends g path done (v ∷ todo) new
+pub data DepthFirst (g : List UseList) : List ℕ → List ℕ → List ℕ → List ℕ → Type 0 where
+  ended : (path done : List ℕ) → DepthFirst g path done [] done
+  met : (path done : List ℕ) (v : ℕ) (todo new : List ℕ) → Among v done ⊎ Among v path → DepthFirst g path done todo new → DepthFirst g path done (v ∷ todo) new
   visited : (path done : List ℕ) (v : ℕ) (todo new mid : List ℕ) → IsNew path done v
-      → Ends g (v ∷ path) done (uses_at g v) mid → Ends g path (mid ++ v ∷ []) todo new → Ends g path done (v ∷ todo) new
+      → DepthFirst g (v ∷ path) done (uses_at g v) mid → DepthFirst g path (mid ++ v ∷ []) todo new → DepthFirst g path done (v ∷ todo) new
 
 -- the numbers of one group with this one, rising
 pub record IsGroupOf (g : List UseList) (v : ℕ) (group : IndexGroup) : Type 0 where
@@ -54,7 +54,7 @@ pub data Grouped (g : List UseList) : List ℕ → List IndexGroup → Type 0 wh
 -- uses, and where uses leave it open, the order is that of first need.
 pub record AreGroups (g : List UseList) (groups : List IndexGroup) : Type 0 where
   pub order : List ℕ
-  pub walk : Ends g [] [] (indices (length g)) order
+  pub walk : DepthFirst g [] [] (indices (length g)) order
   pub grouped : Grouped g order groups
 
 -- there is one list of groups

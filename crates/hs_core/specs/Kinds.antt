@@ -1,7 +1,9 @@
 -- Kinds of types, of groups of type declarations, and of the variables of declared types.
-use Rattle.std.specs.Prelude.{◌≡◌, ◌⊎◌, ℕ, zero, suc, true, List, [], ◌∷◌}
+use Rattle.std.specs.Prelude.{◌≡◌, ◌≢◌, ◌⊎◌, ℕ, zero, suc, true, List, [], ◌∷◌}
 use Rattle.bp_base.specs.declared.ty.OrigName.{OrigName}
-use Rattle.hs_core.specs.Types.{KindTerm, star, arrow, TypeTerm, var, con, app, occurs_in, arrows, count}
+use Rattle.type_terms.specs.Terms.{var, con, app, occurs_in}
+use Rattle.hs_core.specs.declared.tree.Written.{Written}
+use Rattle.hs_core.specs.Types.{KindTerm, star, arrow, TypeTerm, arrows, count, variables, written_term}
 
 -- which name has which kind
 abbrev pub NameKinds : Type 1
@@ -24,7 +26,8 @@ Below (arrow a b) (arrow c d) = Below a c × Below b d
 -- the kinds are those of the variables of a type of kind `*`, and no others are less
 pub record AreLeast (names : NameKinds) (t : TypeTerm) (kinds : ℕ → KindTerm) : Type 0 where
   pub fit : HasKind names kinds t star
-  pub least : (other : ℕ → KindTerm) → HasKind names other t star → (w : ℕ) → occurs_in w t ≡ true → Below (kinds w) (other w)
+  pub least : (other : ℕ → KindTerm) → HasKind names other t star → (w : ℕ) → occurs_in w t ≡ true
+      → Below (kinds w) (other w)
 
 -- what a type declaration says: its fields' types, or the type that a synonym stands for
 pub data Meaning : Type 0 where
@@ -58,15 +61,15 @@ Leads names params (synonym t) k = (j : KindTerm) × (k ≡ arrows params j) × 
 abbrev pub Keeps : NameKinds → TypeDecl → KindTerm → Type 0
 Keeps names d k = (params : List KindTerm) × (count params ≡ d.params) × Leads names params d.meaning k
 
--- the kinds that the declarations of a group get, in their order
+-- the kinds that the declarations of a group get, in their order: of two of one name the first counts
 abbrev pub Given : List TypeDecl → List KindTerm → OrigName → KindTerm → Type 0
 Given [] ks n k = ⊥
 Given (d ∷ ds) [] n k = ⊥
-Given (d ∷ ds) (j ∷ js) n k = ((d.name ≡ n) × (j ≡ k)) ⊎ Given ds js n k
+Given (d ∷ ds) (j ∷ js) n k = ((d.name ≡ n) × (j ≡ k)) ⊎ ((d.name ≢ n) × Given ds js n k)
 
 abbrev pub IsOutside : List TypeDecl → OrigName → Type 0
 IsOutside [] n = Unit {0}
-IsOutside (d ∷ ds) n = (d.name ≡ n → ⊥) × IsOutside ds n
+IsOutside (d ∷ ds) n = (d.name ≢ n) × IsOutside ds n
 
 -- a group's names have the kinds that it gives, and others have those that they have
 abbrev pub within_group : NameKinds → List TypeDecl → List KindTerm → NameKinds
@@ -74,7 +77,8 @@ within_group names ds ks n k = Given ds ks n k ⊎ (IsOutside ds n × names n k)
 
 abbrev pub AllKeep : NameKinds → List TypeDecl → List KindTerm → Type 0
 AllKeep names [] ks = ks ≡ []
-AllKeep names (d ∷ ds) ks = (k : KindTerm) × (rest : List KindTerm) × (ks ≡ k ∷ rest) × Keeps names d k × AllKeep names ds rest
+AllKeep names (d ∷ ds) ks = (k : KindTerm) × (rest : List KindTerm) × (ks ≡ k ∷ rest) × Keeps names d k
+    × AllKeep names ds rest
 
 -- a valid kinding of a group: one kind for each declaration, to which all of them keep
 abbrev pub IsKinding : NameKinds → List TypeDecl → List KindTerm → Type 0
@@ -88,3 +92,12 @@ AllBelow (k ∷ ks) ls = (l : KindTerm) × (rest : List KindTerm) × (ls ≡ l �
 pub record AreLeastKinds (names : NameKinds) (ds : List TypeDecl) (ks : List KindTerm) : Type 0 where
   pub valid : IsKinding names ds ks
   pub least : (others : List KindTerm) → IsKinding names ds others → AllBelow ks others
+
+-- The kind of a written type: the least that it has for any kinds of its variables, which are then the least too. `Maybe` has
+-- `* -> *`, and a variable alone `*`.
+pub record IsKindOf (names : NameKinds) (w : Written) (k : KindTerm) : Type 0 where
+  pub kinds : List KindTerm
+  pub many : count kinds ≡ count (variables w)
+  pub fit : HasKind names (kind_at kinds) (written_term (variables w) w) k
+  pub least : (others : List KindTerm) (j : KindTerm) → count others ≡ count (variables w)
+      → HasKind names (kind_at others) (written_term (variables w) w) j → AllBelow kinds others × Below k j

@@ -1,7 +1,8 @@
 -- When what a module exports matches an entry of a signature (Kilpatrick and others, POPL 2014; Yang's thesis), without
 -- subsumption: types match where they are equal. The types of both are expanded, and the entry is read through the filling modules.
-use Rattle.std.specs.Prelude.{◌≡◌, ◌⊎◌, Bool, List, [], ◌∷◌, ◌++◌, map}
-use Rattle.bp_base.specs.Lists.{Among}
+use Rattle.std.specs.Prelude.{◌≡◌, ◌⊎◌, ℕ, suc, nat_eq, Bool, ◌&&◌, List, [], ◌∷◌, ◌++◌, Option, Some, None, map, if◌then◌else◌}
+use Rattle.std.specs.List.{list_any}
+use Rattle.std.specs.Str.{bytes_eq}
 use Rattle.bp_base.specs.Texts.{Text}
 use Rattle.bp_base.specs.declared.ty.OrigName.{OrigName}
 use Rattle.bp_base.specs.declared.entity.Fixity.{Fixity}
@@ -9,6 +10,8 @@ use Rattle.bp_base.specs.declared.entity.Con.{Con}
 use Rattle.bp_base.specs.declared.entity.Entity.{Entity}
 use Rattle.bp_base.specs.declared.entity.Entity.TheVariants.{Abstract, DataType, Synonym, Value}
 use Rattle.bp_base.specs.declared.entity.Export.{Export}
+use Rattle.type_terms.specs.Terms.{var, con, app, applied}
+use Rattle.hs_core.specs.Sameness.{same_space}
 use Rattle.hs_core.specs.declared.why.Why.{Why}
 use Rattle.hs_core.specs.declared.why.Why.TheVariants as w
 use Rattle.hs_core.specs.Types.{KindTerm, TypeTerm, kind_term, type_term}
@@ -19,11 +22,12 @@ entity_name (DataType n k p new cs) = n
 entity_name (Synonym n k p b) = n
 entity_name (Value n c f) = n
 
--- The module exports this for the entry: of its space and its name.
-pub record IsExported (exports : List Export) (e : Entity) (x : Export) : Type 0 where
-  pub among : Among x exports
-  pub space : (entity_name x.entity).space ≡ (entity_name e).space
-  pub occ : x.occ ≡ (entity_name e).occ
+-- What a module exports for an entry of a signature: of its space and its name. Of two exports of one name the first counts.
+abbrev pub exported_for : Entity → List Export → Option Export
+exported_for e [] = None
+exported_for e (x ∷ xs) =
+    if bytes_eq x.occ (entity_name e).occ && same_space (entity_name x.entity).space
+    (entity_name e).space then Some x else exported_for e xs
 
 -- An abstract type is met by an abstract type, a data type, a newtype, or a synonym without parameters; any other declaration by
 -- one of its own form.
@@ -62,7 +66,8 @@ constructors_of (Value n c f) = []
 -- the same names in the same order, and all of them exported
 abbrev pub SameConstructors : Entity → Export → Type 0
 SameConstructors (Abstract n k) x = Unit {0}
-SameConstructors (DataType n k p new cs) x = (map (λ c. c.occ) (constructors_of x.entity) ≡ map (λ c. c.occ) cs) × (x.cons ≡ map (λ c. c.occ) cs)
+SameConstructors (DataType n k p new cs) x = (map (λ c. c.occ) (constructors_of x.entity) ≡ map (λ c. c.occ) cs)
+    × (x.cons ≡ map (λ c. c.occ) cs)
 SameConstructors (Synonym n k p b) x = Unit {0}
 SameConstructors (Value n c f) x = Unit {0}
 
@@ -76,7 +81,11 @@ pub record ConstructorShape : Type 0 where
   pub fixity : Fixity
 
 abbrev pub shape_of : Con → ConstructorShape
-shape_of c = record { fields = map (λ f. record { strict = f.strict; type = type_term f.ty }) c.fields; fixity = c.fixity }
+shape_of c = record {
+  fields = map
+      (λ f. record { strict = f.strict; type = type_term f.ty }) c.fields;
+  fixity = c.fixity;
+}
 
 abbrev pub SameFields : Entity → Entity → Type 0
 SameFields (Abstract n k) d = Unit {0}
@@ -84,18 +93,33 @@ SameFields (DataType n k p new cs) d = map shape_of (constructors_of d) ≡ map 
 SameFields (Synonym n k p b) d = Unit {0}
 SameFields (Value n c f) d = Unit {0}
 
--- a value's type, whose variables are numbered by first occurrence, or a synonym's body, whose parameters come first
+-- a type's variables, behind those that were met before, in order of first occurrence
+abbrev pub variables_met : List ℕ → TypeTerm → List ℕ
+variables_met met (var i) = if list_any (nat_eq i) met then met else met ++ i ∷ []
+variables_met met (con n) = met
+variables_met met (app f a) = variables_met (variables_met met f) a
+
+-- the place of a variable in a list, from 0
+abbrev pub number_in : List ℕ → ℕ → ℕ
+number_in [] i = 0
+number_in (j ∷ js) i = if nat_eq j i then 0 else suc (number_in js i)
+
+-- the type with its variables numbered by first occurrence: `b -> a -> b` is `t0 -> t1 -> t0`
+abbrev pub numbered : TypeTerm → TypeTerm
+numbered t = applied (λ i. var (number_in (variables_met [] t) i)) t
+
+-- A value's type is what it is up to the numbering of its variables; in a synonym's body the parameters are numbered by its head.
 abbrev pub types_of : Entity → List TypeTerm
 types_of (Abstract n k) = []
 types_of (DataType n k p new cs) = []
 types_of (Synonym n k p b) = type_term b ∷ []
-types_of (Value n c f) = type_term c.body ∷ []
+types_of (Value n c f) = numbered (type_term c.body) ∷ []
 
 abbrev pub SameType : Entity → Entity → Type 0
 SameType (Abstract n k) d = Unit {0}
 SameType (DataType n k p new cs) d = Unit {0}
 SameType (Synonym n k p b) d = types_of d ≡ type_term b ∷ []
-SameType (Value n c f) d = types_of d ≡ type_term c.body ∷ []
+SameType (Value n c f) d = types_of d ≡ numbered (type_term c.body) ∷ []
 
 abbrev pub fixities_of : Entity → List Fixity
 fixities_of (Abstract n k) = []
@@ -129,12 +153,12 @@ PassAll (c ∷ cs) e x = Passes c e x × PassAll cs e x
 
 -- An entry is matched: something is exported for it, and no cause holds.
 abbrev pub IsMatched : List Export → Entity → Type 0
-IsMatched exports e = (x : Export) × IsExported exports e x × PassAll causes e x
+IsMatched exports e = (x : Export) × (exported_for e exports ≡ Some x) × PassAll causes e x
 
 -- The first cause that holds: nothing is exported for the entry, or the causes before it do not hold and it does.
 abbrev pub IsFirstCause : List Export → Entity → Why → Type 0
-IsFirstCause exports e why = ((why ≡ w.Missing) × ((x : Export) → IsExported exports e x → ⊥))
-    ⊎ ((x : Export) × IsExported exports e x × (before : List Why) × (after : List Why)
+IsFirstCause exports e why = ((why ≡ w.Missing) × (exported_for e exports ≡ None))
+    ⊎ ((x : Export) × (exported_for e exports ≡ Some x) × (before : List Why) × (after : List Why)
     × (causes ≡ before ++ why ∷ after) × PassAll before e x × (Passes why e x → ⊥))
 
 -- an interface matches a signature: each entry is matched

@@ -1,5 +1,5 @@
 -- Renaming: what becomes of the names of a component's modules when its holes are filled.
-use Rattle.std.specs.Prelude.{Bool, true, false, ◌&&◌, List, [], ◌∷◌, Option, Some, None, unwrap_or, map, if◌then◌else◌}
+use Rattle.std.specs.Prelude.{Bool, ◌&&◌, List, [], ◌∷◌, Option, Some, None, unwrap_or, map, if◌then◌else◌}
 use Rattle.std.specs.Str.{bytes_eq}
 use Rattle.bp_base.specs.Texts.{Text}
 use Rattle.bp_base.specs.declared.ident.Ident.{Ident}
@@ -7,13 +7,13 @@ use Rattle.bp_base.specs.declared.ident.Ident.TheVariants.{Hole, Module, Module'
 use Rattle.bp_base.specs.declared.ident.Ident.TheBlock.{end_of-Unit, more_of-Unit}
 use Rattle.bp_base.specs.declared.ty.OrigName.{OrigName}
 use Rattle.bp_base.specs.declared.ty.Space.{Space}
-use Rattle.bp_base.specs.declared.ty.Space.TheVariants.{Types, Values}
 use Rattle.bp_base.specs.declared.ty.Ty.{Ty}
 use Rattle.bp_base.specs.declared.ty.Ty.TheVariants.{Var, Con, App, App'}
 use Rattle.bp_base.specs.declared.ty.Ty.TheBlock.{end_of-Ty, more_of-Ty}
 use Rattle.bp_base.specs.declared.linking.Renaming.{Renaming}
 use Rattle.bp_base.specs.declared.linking.Shown.{Shown}
 use Rattle.unit_identity.specs.Fill.{filled_unit, composed}
+use Rattle.hs_core.specs.Sameness.{same_space}
 use Rattle.hs_core.specs.declared.tree.Written.{Written}
 use Rattle.hs_core.specs.declared.tree.Written.TheVariants.{WVar, WCon, WApp, WApp'}
 use Rattle.hs_core.specs.declared.tree.Written.TheBlock.{end_of-Written, more_of-Written}
@@ -34,12 +34,6 @@ use Rattle.hs_core.specs.declared.tree.FieldDecl.{FieldDecl}
 use Rattle.hs_core.specs.declared.tree.Body.{Body}
 use Rattle.hs_core.specs.declared.tree.Decl.TheViews.{roll-Rhs, roll-Alt}
 use Rattle.hs_core.specs.declared.tree.Decl.TheBlock.{Row_of-Choice, end_of-Choice, more_of-Choice, Row_of-Decl, end_of-Decl, more_of-Decl, Row_of-Guard, end_of-Guard, more_of-Guard, Row_of-Exp, end_of-Exp, more_of-Exp, Row_of-Alt, end_of-Alt, more_of-Alt}
-
--- whether two spaces are one
-abbrev pub same_space : Space → Space → Bool
-same_space Types Types = true
-same_space Values Values = true
-same_space s t = false
 
 -- whether it says what the filler of the hole exports for the space and the occurrence
 abbrev pub is_for : Text → Space → Text → Shown → Bool

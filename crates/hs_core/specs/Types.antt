@@ -1,5 +1,5 @@
 -- Types and kinds as terms.
-use Rattle.std.specs.Prelude.{ℕ, zero, suc, Bool, true, false, ◌||◌, nat_eq, nat_le, max, List, [], ◌∷◌, ◌++◌, if◌then◌else◌, codes}
+use Rattle.std.specs.Prelude.{ℕ, zero, suc, Bool, true, nat_le, max, List, [], ◌∷◌, ◌++◌, if◌then◌else◌, codes}
 use Rattle.std.specs.Str.{bytes_eq}
 use Rattle.bp_base.specs.Texts.{Text}
 use Rattle.bp_base.specs.Lists.{is_among}
@@ -14,6 +14,7 @@ use Rattle.bp_base.specs.declared.ty.Kind.TheBlock.{more_of-Kind, end_of-Kind}
 use Rattle.bp_base.specs.declared.ty.Ty.{Ty}
 use Rattle.bp_base.specs.declared.ty.Ty.TheVariants.{Var, Con, App'}
 use Rattle.bp_base.specs.declared.ty.Ty.TheBlock.{more_of-Ty, end_of-Ty}
+use Rattle.type_terms.specs.Terms.{Term, var, con, app, Assignment}
 use Rattle.hs_core.specs.declared.tree.Written.{Written}
 use Rattle.hs_core.specs.declared.tree.Written.TheVariants.{WVar, WCon, WApp'}
 use Rattle.hs_core.specs.declared.tree.Written.TheBlock.{more_of-Written, end_of-Written}
@@ -24,10 +25,8 @@ pub data KindTerm : Type 0 where
   arrow : (from to : KindTerm) → KindTerm
 
 -- a type: a term over original names and variables, which are numbers (Haskell 2010 Report, section 4.1.2)
-pub data TypeTerm : Type 0 where
-  var : (index : ℕ) → TypeTerm
-  con : (name : OrigName) → TypeTerm
-  app : (fun arg : TypeTerm) → TypeTerm
+abbrev pub TypeTerm : Type 0
+TypeTerm = Term ℕ OrigName
 
 -- the kind that a tree stands for
 abbrev pub kind_term : Kind → KindTerm
@@ -49,13 +48,15 @@ place (n ∷ ns) x = if bytes_eq n x then 0 else suc (place ns x)
 abbrev pub written_term : List Text → Written → TypeTerm
 written_term names (WVar x) = var (place names x)
 written_term names (WCon n) = con n
-written_term names (WApp' s (more_of-Written f end_of-Written) z (more_of-Written a end_of-Written)) = app (written_term names f) (written_term names a)
+written_term names (WApp' s (more_of-Written f end_of-Written) z (more_of-Written a end_of-Written)) = app
+    (written_term names f) (written_term names a)
 
 -- a written type's variables, behind those that were met before, in order of first occurrence
 abbrev pub variables_after : List Text → Written → List Text
 variables_after met (WVar x) = if is_among x met then met else met ++ x ∷ []
 variables_after met (WCon n) = met
-variables_after met (WApp' s (more_of-Written f end_of-Written) z (more_of-Written a end_of-Written)) = variables_after (variables_after met f) a
+variables_after met (WApp' s (more_of-Written f end_of-Written) z (more_of-Written a end_of-Written)) = variables_after
+    (variables_after met f) a
 
 abbrev pub variables : Written → List Text
 variables w = variables_after [] w
@@ -122,24 +123,12 @@ within d t = nat_le (depth t) d
 abbrev pub any : TypeTerm → Bool
 any t = true
 
--- whether a variable occurs
-abbrev pub occurs_in : ℕ → TypeTerm → Bool
-occurs_in x (var i) = nat_eq x i
-occurs_in x (con n) = false
-occurs_in x (app f a) = occurs_in x f || occurs_in x a
-
 -- a type for each variable
-abbrev pub Assignment : Type 0
-Assignment = ℕ → TypeTerm
-
--- a type with each variable replaced
-abbrev pub applied : Assignment → TypeTerm → TypeTerm
-applied s (var i) = s i
-applied s (con n) = con n
-applied s (app f a) = app (applied s f) (applied s a)
+abbrev pub TypeAssignment : Type 0
+TypeAssignment = Assignment ℕ ℕ OrigName
 
 -- the types that a list has for the variables from 0; a variable past its end stays
-abbrev pub listed : List TypeTerm → Assignment
+abbrev pub listed : List TypeTerm → TypeAssignment
 listed [] i = var i
 listed (t ∷ ts) zero = t
 listed (t ∷ ts) (suc i) = listed ts i

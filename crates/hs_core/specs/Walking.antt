@@ -7,7 +7,7 @@ use Rattle.hs_core.specs.declared.group.Walked.{Walked}
 use Rattle.hs_core.specs.declared.group.Step.{Step}
 use Rattle.hs_core.specs.declared.group.Step.TheVariants.{Enter, Leave}
 use Rattle.hs_core.specs.declared.group.IndexGroup.{IndexGroup}
-use Rattle.hs_core.specs.Groups.{uses_at, Ends, Together, Grouped}
+use Rattle.hs_core.specs.Groups.{uses_at, DepthFirst, Together, Grouped}
 
 -- these are still to be begun
 abbrev pub enters : List ℕ → List Step
@@ -23,7 +23,7 @@ path_of (Leave v ∷ steps) = v ∷ path_of steps
 -- what is pending, uppermost first, leaves these done
 abbrev pub Leads : List UseList → List Step → List ℕ → List ℕ → Type 0
 Leads g [] done new = done ≡ new
-Leads g (Enter v ∷ steps) done new = (mid : List ℕ) × Ends g (path_of steps) done (v ∷ []) mid × Leads g steps mid new
+Leads g (Enter v ∷ steps) done new = (mid : List ℕ) × DepthFirst g (path_of steps) done (v ∷ []) mid × Leads g steps mid new
 Leads g (Leave v ∷ steps) done new = Leads g steps (done ++ v ∷ []) new
 
 -- what is marked as begun
@@ -55,13 +55,13 @@ pub record IsOnWay (g : List UseList) (starts start : List ℕ) (steps : List St
   pub size : length walked.begun ≡ length g
   pub below : (v : ℕ) → Among (Enter v) steps → v < length g
   pub marked : IsMarked walked.begun (path_of steps) walked.done
-  pub leads : (new : List ℕ) → Leads g steps walked.done new → Ends g [] start starts new
+  pub leads : (new : List ℕ) → Leads g steps walked.done new → DepthFirst g [] start starts new
 
 -- a whole walk
 pub record IsWalk (g : List UseList) (starts : List ℕ) (old new : Walked) : Type 0 where
   pub rest : IsAtRest g new
   pub longer : length old.done ≤ length new.done
-  pub ends : Ends g [] old.done starts new.done
+  pub ends : DepthFirst g [] old.done starts new.done
 
 -- the second graph has the uses of the first turned round, of the numbers below a count
 pub record IsTurnedBelow (g h : List UseList) (n : ℕ) : Type 0 where

@@ -1,6 +1,6 @@
 //! Dependency groups: the strongly connected components of who uses whom (Haskell 2010 Report, sections 4.5.1 and 4.6).
 ghost use Rattle.std.specs.Prelude.{◌≡◌, [], ◌∷◌, ◌++◌, replicate, ◌<◌, ℕ, ◌↔◌, IsTrue, IfOk, OnOk, length, reverse, slice_set, slice_index_or};
-ghost use Rattle.hs_core.specs.Groups.{uses_at, InRange, indices, Ends, Grouped, AreGroups, GroupsAreOne};
+ghost use Rattle.hs_core.specs.Groups.{uses_at, InRange, indices, DepthFirst, Grouped, AreGroups, GroupsAreOne};
 ghost use Rattle.hs_core.specs.declared.group.Step.TheVariants.{Enter};
 ghost use Rattle.hs_core.specs.Walking.{enters, IsStep, IsAtRest, AreBelow, IsWalk, IsTurned, IsUsedBy, IsRising, IsGathered};
 
@@ -138,7 +138,7 @@ fn all_indices(alloc: Global, count: usize) -> Result<Indices, AllocError>
 
 fn post_order(alloc: Global, uses: &[UseList]) -> Result<Indices, AllocError>
     requires { InRange uses.now }
-    ensures { IfOk result (λ order. Ends uses.now [] [] (indices (length uses.now)) order) }
+    ensures { IfOk result (λ order. DepthFirst uses.now [] [] (indices (length uses.now)) order) }
 {
     let starts = all_indices(alloc, uses.len())?;
     let mut walked = nothing_walked(alloc, uses)?;
@@ -229,7 +229,7 @@ fn gathered(
     mut order: Indices,
 ) -> Result<Vec<IndexGroup>, AllocError>
     requires in_range { InRange uses.now }
-    requires order { Ends uses.now [] [] (indices (length uses.now)) order }
+    requires order { DepthFirst uses.now [] [] (indices (length uses.now)) order }
     ensures { IfOk result (λ groups. Grouped uses.now order (reverse groups.items)) }
 {
     let users = users(alloc, uses)?;

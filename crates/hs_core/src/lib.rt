@@ -6,7 +6,6 @@ mod base;
 mod base_rows;
 mod copies;
 mod equal;
-mod examples;
 mod group;
 mod laws;
 mod rename;
@@ -20,15 +19,12 @@ pub use equal::{
     same_alt, same_body, same_checked, same_choice, same_con_decl, same_decl, same_exp,
     same_field_decl, same_guard, same_pat, same_rhs, same_written,
 };
-pub use examples::{
-    arguments_of_patterns, clauses, expansion, generalisation, kinds_of_variables, least_kinds,
-    matching, rigid_variables,
-};
 pub use group::{
     IndexGroup, IndexGroups, Indices, UseList, UseLists, are_in_range, groups, groups_are_one,
 };
 pub use laws::{
-    body_renaming_composes, name_renaming_composes, nothing_renames, type_renaming_composes,
+    body_renaming_composes, name_renaming_composes, names_mean_one_thing, nothing_renames,
+    type_renaming_composes, types_expand,
 };
 pub use rename::{compose_renamings, rename_name, rename_ty, rename_written};
 pub use rename_tree::rename_body;

@@ -6,12 +6,12 @@ use Rattle.std.specs.Option.{option_map}
 use Rattle.type_unify.specs.Types.{Plain, Assignment, Equals, Solves, Bound, ids, resolved}
 use Rattle.type_unify.specs.Unified.{IsUnified, NotSolvable}
 use Rattle.type_unify.specs.declared.cell.Cell.{Cell}
-use Rattle.type_unify.specs.Cells.{at, trees, bounds, bounds_after, seen, Stands}
+use Rattle.type_unify.specs.Cells.{at, trees, bounds, bounds_after, seen, IsTable}
 use Rattle.type_unify.specs.Outcomes.{Grows, Solved}
 use Rattle.type_unify.specs.Taken.{IsLonger, Extends, TakenIn}
 use Rattle.type_unify.specs.Attempts.{Attempted}
 use Rattle.type_unify.proofs.Solving.{solution, Solves-solution}
-use Rattle.type_unify.proofs.Tables.{Stands-new, seen_is}
+use Rattle.type_unify.proofs.Tables.{IsTable-new, seen_is}
 use Rattle.type_unify.proofs.Taking.{Extends-trans}
 
 pub bounds-new : bounds [] [] ≡ []
@@ -26,19 +26,19 @@ pub take-grows : (old new : List (ℕ × ℕ)) → Grows old new → take (lengt
 take-grows old new g = ap (take (length old)) g.1 ∙ take-append_seam old g.0
 
 -- a type that was brought in, with all bindings applied
-pub seen-taken : (old new : List Cell) (es : List (ℕ × ℕ)) (t : Plain) (n : ℕ) → Stands old es → TakenIn old new t n → seen new es n ≡ resolved (bounds old es) t
+pub seen-taken : (old new : List Cell) (es : List (ℕ × ℕ)) (t : Plain) (n : ℕ) → IsTable old es → TakenIn old new t n → seen new es n ≡ resolved (bounds old es) t
 seen-taken old new es t n h k = seen_is new es n ∙ ap₂ resolved (k.extends.same es h) k.is
 
 -- both types stand in the table
 pub record Both (first cs : List Cell) (es : List (ℕ × ℕ)) (t u : Plain) (a b : ℕ) : Type 0 where
-  pub stands : Stands cs es
+  pub stands : IsTable cs es
   pub left : at (trees cs) a ≡ t
   pub right : at (trees cs) b ≡ u
   pub left_in : a < length cs
   pub right_in : b < length cs
   pub same : bounds cs es ≡ bounds first es
 
-pub Both-taken : (first mid cs : List Cell) (es : List (ℕ × ℕ)) (t u : Plain) (a b : ℕ) → Stands first es → TakenIn first mid t a → TakenIn mid cs u b → Both first cs es t u a b
+pub Both-taken : (first mid cs : List Cell) (es : List (ℕ × ℕ)) (t u : Plain) (a b : ℕ) → IsTable first es → TakenIn first mid t a → TakenIn mid cs u b → Both first cs es t u a b
 Both-taken first mid cs es t u a b h p q =
     let m = p.extends.stands es h in
     record {
@@ -78,8 +78,8 @@ NotSolvable-both first cs es t u a b k h =
 pub TakenIn-is : (old new : List Cell) (t u : Plain) (n : ℕ) → TakenIn old new t n → t ≡ u → TakenIn old new u n
 TakenIn-is old new t u n h e = subst (λ v. TakenIn old new v n) e h
 
-pub Stands-empty : (cs : List Cell) (es : List (ℕ × ℕ)) → cs ≡ [] → es ≡ [] → Stands cs es
-Stands-empty cs es e f = subst (λ v. Stands v es) (sym e) (subst (λ w. Stands [] w) (sym f) Stands-new)
+pub IsTable-empty : (cs : List Cell) (es : List (ℕ × ℕ)) → cs ≡ [] → es ≡ [] → IsTable cs es
+IsTable-empty cs es e f = subst (λ v. IsTable v es) (sym e) (subst (λ w. IsTable [] w) (sym f) IsTable-new)
 
 pub bounds-empty : (cs : List Cell) (es : List (ℕ × ℕ)) → cs ≡ [] → es ≡ [] → bounds cs es ≡ []
 bounds-empty cs es e f = ap₂ bounds e f ∙ bounds-new
@@ -93,8 +93,8 @@ unfolding bounds
 length-bounds cs es = omega (arith, length-bounds_after (trees cs) [] es)
 
 -- cut back to what stood
-pub Stands-cut : (old new cut : List Cell) (es more back : List (ℕ × ℕ)) → Stands old es → cut ≡ old → back ≡ es → Stands cut back
-Stands-cut old new cut es more back h e f = subst (λ v. Stands v back) (sym e) (subst (λ w. Stands old w) (sym f) h)
+pub IsTable-cut : (old new cut : List Cell) (es more back : List (ℕ × ℕ)) → IsTable old es → cut ≡ old → back ≡ es → IsTable cut back
+IsTable-cut old new cut es more back h e f = subst (λ v. IsTable v back) (sym e) (subst (λ w. IsTable old w) (sym f) h)
 
 -- ---- the unknowns that are bound
 

@@ -3,15 +3,15 @@ use Rattle.std.proofs.Common.{◌≡◌, ℕ, zero, suc, ◌+◌, ◌<◌, ◌�
 use Rattle.std.specs.Prelude.{nat_eq, if◌then◌else◌}
 use Rattle.std.specs.Map.{lookup}
 use Rattle.bp_base.specs.declared.ty.OrigName.{OrigName}
-use Rattle.bp_base.specs.declared.ty.Kind.{Kind}
-use Rattle.type_unify.specs.Types.{Plain, flex, app, bare, Assignment, apply, Equals, Solves, Bound, resolved, occurs_in, Every, EveryBound}
+use Rattle.type_terms.specs.Terms.{var, app, applied, occurs_in, Every}
+use Rattle.type_unify.specs.Types.{Head, Plain, bare, Assignment, Equals, Solves, Bound, resolved, EveryBound}
 use Rattle.type_unify.specs.declared.cell.Cell.{Cell}
-use Rattle.type_unify.specs.Cells.{at, trees, bounds, seen, hops_in, hops, Stands}
+use Rattle.type_unify.specs.Cells.{at, trees, bounds, seen, hops_in, hops, IsTable}
 use Rattle.type_unify.specs.Steps.{AllEqual, EveryPair, AllWithin, Free, Asks}
 use Rattle.type_unify.specs.Outcomes.{Refuses, Grows, Solved}
 use Rattle.type_unify.specs.Unified.{NotSolvable}
-use Rattle.type_unify.proofs.Solving.{test_cases, or_of_false, apply-replaced, apply-resolved, Solves-front, Solves-last, Solves-push, occurs_unsolvable, Every-replaced, Every-resolved, EveryBound-push}
-use Rattle.type_unify.proofs.Tables.{Binds, bounds-push, seen-binds, seen_is, Stands-bind}
+use Rattle.type_unify.proofs.Solving.{test_cases, or_of_false, applied-replaced, applied-resolved, Solves-front, Solves-last, Solves-push, occurs_unsolvable, Every-replaced, Every-resolved, EveryBound-push}
+use Rattle.type_unify.proofs.Tables.{Binds, bounds-push, seen-binds, seen_is, IsTable-bind}
 
 -- ---- how many unknowns are free
 
@@ -31,7 +31,7 @@ bound_in-push : (x : ℕ) (bs : List Bound) (b : Bound) → bound_in x (bs ++ b 
 bound_in-push x [] b = elim (nat_eq x b.id) as (λ v. (v || false) ≡ v) [ true ↦ refl | false ↦ refl ]
 bound_in-push x (c ∷ bs) b = elim (nat_eq x c.id) as (λ v. (v || bound_in x (bs ++ b ∷ [])) ≡ ((v || bound_in x bs) || nat_eq x b.id)) [ true ↦ refl | false ↦ bound_in-push x bs b ]
 
-free_unbound : (bs : List Bound) (x : ℕ) → hops_in bs (flex x) ≡ 0 → bound_in x bs ≡ false
+free_unbound : (bs : List Bound) (x : ℕ) → hops_in bs (var x) ≡ 0 → bound_in x bs ≡ false
 free_unbound [] x h = refl
 free_unbound (b ∷ bs) x h =
     elim (test_cases b.id x) [
@@ -70,19 +70,19 @@ unbound-push (suc n) bs b h c =
 
 -- ---- pairs under one more binding
 
-AllEqual-binds : (s : Assignment) (cs : List Cell) (es : List (ℕ × ℕ)) (x n : ℕ) (ps : List (ℕ × ℕ)) → Equals s (flex x) (seen cs es n) → AllEqual s (seen cs es) ps → AllEqual s (seen cs (es ++ (x, n) ∷ [])) ps
+AllEqual-binds : (s : Assignment) (cs : List Cell) (es : List (ℕ × ℕ)) (x n : ℕ) (ps : List (ℕ × ℕ)) → Equals s (var x) (seen cs es n) → AllEqual s (seen cs es) ps → AllEqual s (seen cs (es ++ (x, n) ∷ [])) ps
 AllEqual-binds s cs es x n [] e h = tt
 AllEqual-binds s cs es x n (p ∷ ps) e h = (
-  ap (λ t. bare (apply s t)) (seen-binds cs es x n p.0) ∙ apply-replaced s x (seen cs es n) (seen cs es p.0) e ∙ h.0
-      ∙ sym (ap (λ t. bare (apply s t)) (seen-binds cs es x n p.1) ∙ apply-replaced s x (seen cs es n) (seen cs es p.1) e),
+  ap (λ t. bare (applied s t)) (seen-binds cs es x n p.0) ∙ applied-replaced s x (seen cs es n) (seen cs es p.0) e ∙ h.0
+      ∙ sym (ap (λ t. bare (applied s t)) (seen-binds cs es x n p.1) ∙ applied-replaced s x (seen cs es n) (seen cs es p.1) e),
   AllEqual-binds s cs es x n ps e h.1,
 )
 
-AllEqual-unbinds : (s : Assignment) (cs : List Cell) (es : List (ℕ × ℕ)) (x n : ℕ) (ps : List (ℕ × ℕ)) → Equals s (flex x) (seen cs es n) → AllEqual s (seen cs (es ++ (x, n) ∷ [])) ps → AllEqual s (seen cs es) ps
+AllEqual-unbinds : (s : Assignment) (cs : List Cell) (es : List (ℕ × ℕ)) (x n : ℕ) (ps : List (ℕ × ℕ)) → Equals s (var x) (seen cs es n) → AllEqual s (seen cs (es ++ (x, n) ∷ [])) ps → AllEqual s (seen cs es) ps
 AllEqual-unbinds s cs es x n [] e h = tt
 AllEqual-unbinds s cs es x n (p ∷ ps) e h = (
-  sym (ap (λ t. bare (apply s t)) (seen-binds cs es x n p.0) ∙ apply-replaced s x (seen cs es n) (seen cs es p.0) e) ∙ h.0
-      ∙ ap (λ t. bare (apply s t)) (seen-binds cs es x n p.1) ∙ apply-replaced s x (seen cs es n) (seen cs es p.1) e,
+  sym (ap (λ t. bare (applied s t)) (seen-binds cs es x n p.0) ∙ applied-replaced s x (seen cs es n) (seen cs es p.0) e) ∙ h.0
+      ∙ ap (λ t. bare (applied s t)) (seen-binds cs es x n p.1) ∙ applied-replaced s x (seen cs es n) (seen cs es p.1) e,
   AllEqual-unbinds s cs es x n ps e h.1,
 )
 
@@ -98,24 +98,24 @@ EveryPair-binds p q cs es x n (e ∷ ps) u h = (
 
 -- a solution of the bindings so far that makes the pairs left equal is one of the old bindings that makes the two types equal
 pub record Reached (cs : List Cell) (first es stack : List (ℕ × ℕ)) (a b : ℕ) : Type 0 where
-  pub stands : Stands cs es
+  pub stands : IsTable cs es
   pub grows : Grows first es
   pub tail : (more : List Bound) × (bounds cs es ≡ bounds cs first ++ more)
   pub within : AllWithin (length cs) stack
   pub keeps : (s : Assignment) → Solves s (bounds cs es) → Solves s (bounds cs first)
   pub pending : (s : Assignment) → Solves s (bounds cs es) → AllEqual s (seen cs es) stack → Equals s (at (trees cs) a) (at (trees cs) b)
   pub all : (s : Assignment) → Solves s (bounds cs first) → Equals s (at (trees cs) a) (at (trees cs) b) → Solves s (bounds cs es) × AllEqual s (seen cs es) stack
-  pub closed : (p : ℕ → Bool) (q : OrigName → Kind → Bool) → EveryBound p q (bounds cs first) → Every p q (at (trees cs) a) → Every p q (at (trees cs) b) → EveryBound p q (bounds cs es) × EveryPair p q (seen cs es) stack
+  pub closed : (p : ℕ → Bool) (q : Head → Bool) → EveryBound p q (bounds cs first) → Every p q (at (trees cs) a) → Every p q (at (trees cs) b) → EveryBound p q (bounds cs es) × EveryPair p q (seen cs es) stack
 
 seen-equals : (cs : List Cell) (es : List (ℕ × ℕ)) (s : Assignment) (i : ℕ) → Solves s (bounds cs es) → Equals s (seen cs es i) (at (trees cs) i)
 unfolding seen
-seen-equals cs es s i h = apply-resolved s (bounds cs es) (at (trees cs) i) h
+seen-equals cs es s i h = applied-resolved s (bounds cs es) (at (trees cs) i) h
 
 seen-every : (cs : List Cell) (es : List (ℕ × ℕ)) (p : ℕ → Bool) (q : _) (i : ℕ) → EveryBound p q (bounds cs es) → Every p q (at (trees cs) i) → Every p q (seen cs es i)
 unfolding seen
 seen-every cs es p q i b h = Every-resolved p q (bounds cs es) (at (trees cs) i) b h
 
-started : (cs : List Cell) (es : List (ℕ × ℕ)) (a b : ℕ) → Stands cs es → a < length cs → b < length cs → Reached cs es es ((a, b) ∷ []) a b
+started : (cs : List Cell) (es : List (ℕ × ℕ)) (a b : ℕ) → IsTable cs es → a < length cs → b < length cs → Reached cs es es ((a, b) ∷ []) a b
 started cs es a b h la lb = record {
   stands = h;
   grows = ([], sym (append-nil es));
@@ -127,7 +127,7 @@ started cs es a b h la lb = record {
   closed = λ p q k x y. (k, (seen-every cs es p q a k x, seen-every cs es p q b k y, tt));
 }
 
-pub Reached-start : (cs : List Cell) (es stack : List (ℕ × ℕ)) (a b : ℕ) → Stands cs es → a < length cs → b < length cs → stack ≡ (a, b) ∷ [] → Reached cs es es stack a b
+pub Reached-start : (cs : List Cell) (es stack : List (ℕ × ℕ)) (a b : ℕ) → IsTable cs es → a < length cs → b < length cs → stack ≡ (a, b) ∷ [] → Reached cs es es stack a b
 Reached-start cs es stack a b h la lb e = subst (λ ps. Reached cs es es ps a b) (sym e) (started cs es a b h la lb)
 
 Binds-free : (cs : List Cell) (es : List (ℕ × ℕ)) (x n : ℕ) → Free cs es x n → occurs_in x (seen cs es n) ≡ false → Binds cs es x n
@@ -139,7 +139,7 @@ bound cs first es stack rest a b x n r k o =
     let last : Bound = record { id = x; term = seen cs es n } in
     let is = bounds-push cs es x n in
     record {
-      stands = Stands-bind cs es x n r.stands (Binds-free cs es x n k.free o);
+      stands = IsTable-bind cs es x n r.stands (Binds-free cs es x n k.free o);
       grows = (r.grows.0 ++ (x, n) ∷ [], ap (λ l. l ++ (x, n) ∷ []) r.grows.1 ∙ append_assoc first r.grows.0 ((x, n) ∷ []));
       tail = (r.tail.0 ++ last ∷ [], is ∙ ap (λ l. l ++ last ∷ []) r.tail.1 ∙ append_assoc (bounds cs first) r.tail.0 (last ∷ []));
       within = k.within r.within;
@@ -171,7 +171,7 @@ unbound-bind cs es stack rest next x n m e k g =
     rw g (rw bounds-push (unbound-push m (bounds cs es) last (rw e k.free.in_range) (free_unbound (bounds cs es) x k.free.free)))
 
 -- an unknown that is free has no entry
-pub no_entry : (cs : List Cell) (es stack rest : List (ℕ × ℕ)) (x n : ℕ) → Stands cs es → Asks cs es stack rest x n → lookup (nat_eq x) es ≡ None
+pub no_entry : (cs : List Cell) (es stack rest : List (ℕ × ℕ)) (x n : ℕ) → IsTable cs es → Asks cs es stack rest x n → lookup (nat_eq x) es ≡ None
 no_entry cs es stack rest x n h k = go (lookup (nat_eq x) es) refl
   where
     go : (r : Option ℕ) → lookup (nat_eq x) es ≡ r → r ≡ None

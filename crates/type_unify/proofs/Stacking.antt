@@ -1,7 +1,8 @@
 -- Laws of stacks of numbers and of tasks.
 use Rattle.std.proofs.Common.{◌≡◌, ℕ, zero, suc, ◌+◌, ◌-◌, ◌*◌, ◌<◌, ◌≤◌, Bool, true, false, ◌||◌, List, [], ◌∷◌, ◌++◌, take, refl, sym, ap, ap₂, subst, ◌∙◌, arith, append_assoc, append-nil}
 use Rattle.std.specs.Prelude.{nat_eq, OnOk, IfErr, Result, Ok, Err}
-use Rattle.type_unify.specs.Types.{Plain, flex, rigid, con, app, occurs_in}
+use Rattle.type_terms.specs.Terms.{var, con, app, occurs_in}
+use Rattle.type_unify.specs.Types.{Plain, rigid, named}
 use Rattle.type_unify.specs.Written.{nodes_of}
 use Rattle.type_unify.specs.Steps.{size}
 use Rattle.type_unify.specs.Stacks.{occurs_among, sizes, Below, Looks, Unseen, written, load, TasksBelow}
@@ -12,9 +13,8 @@ use Rattle.type_unify.specs.declared.spell.Task.{Task}
 use Rattle.type_unify.specs.declared.spell.Task.TheVariants.{Visit, Join}
 
 pub size-positive : (t : Plain) → 0 < size t
-size-positive (flex i) = omega arith
-size-positive (rigid i) = omega arith
-size-positive (con n k) = omega arith
+size-positive (var i) = omega arith
+size-positive (con h) = omega arith
 size-positive (app f a) = omega arith
 
 -- a stack from which nothing was popped is empty
@@ -56,9 +56,9 @@ Unseen-leaf f m x i old new e o = record {
   within = λ h. subst (Below m) (sym e) h;
 }
 
-pub Looks-flex : (f : ℕ → Plain) (m x i j : ℕ) (old new : List ℕ) (r : Bool) → new ≡ old → f i ≡ flex j → r ≡ nat_eq x j → Looks f m x i old new r
-Looks-flex f m x i j old new true e s r = ap (occurs_in x) s ∙ sym r
-Looks-flex f m x i j old new false e s r = Unseen-leaf f m x i old new e (ap (occurs_in x) s ∙ sym r)
+pub Looks-var : (f : ℕ → Plain) (m x i j : ℕ) (old new : List ℕ) (r : Bool) → new ≡ old → f i ≡ var j → r ≡ nat_eq x j → Looks f m x i old new r
+Looks-var f m x i j old new true e s r = ap (occurs_in x) s ∙ sym r
+Looks-var f m x i j old new false e s r = Unseen-leaf f m x i old new e (ap (occurs_in x) s ∙ sym r)
 
 pub Unseen-app : (f : ℕ → Plain) (m x i g a : ℕ) (old new : List ℕ) → new ≡ old ++ a ∷ g ∷ [] → f i ≡ app (f g) (f a) → g < m → a < m → Unseen f m x i old new
 Unseen-app f m x i g a old new e s lg la =

@@ -1,7 +1,8 @@
 -- What a step of unification shows.
 use Rattle.std.proofs.Common.{◌≡◌, ℕ, zero, suc, ◌+◌, ◌<◌, ◌≤◌, Bool, true, false, List, [], ◌∷◌, ◌++◌, length, Option, Some, None, ◌⊎◌, inl, inr, refl, sym, ap, ap₂, subst, ◌∙◌, arith, append_assoc}
 use Rattle.std.specs.Prelude.{◌↔◌}
-use Rattle.type_unify.specs.Types.{Plain, flex, rigid, con, app, bare, Same, Assignment, apply, Equals, Every}
+use Rattle.type_terms.specs.Terms.{var, con, app, applied, Every}
+use Rattle.type_unify.specs.Types.{Plain, rigid, bare, Same, Assignment, Equals, named}
 use Rattle.type_unify.specs.declared.cell.Cell.{Cell}
 use Rattle.type_unify.specs.declared.solve.Wanted.{Wanted}
 use Rattle.type_unify.specs.Cells.{seen}
@@ -10,15 +11,14 @@ use Rattle.type_unify.specs.Outcomes.{Reduces, Refuses, Step, Advance}
 use Rattle.type_unify.specs.Differences.{PartsOf, BindOf}
 use Rattle.type_unify.proofs.Stacking.{size-positive}
 
-apply-bare : (s : Assignment) (t : Plain) → bare (apply s t) ≡ bare (apply s (bare t))
-apply-bare s (flex i) = refl
-apply-bare s (rigid i) = refl
-apply-bare s (con n k) = refl
-apply-bare s (app f a) = ap₂ app (apply-bare s f) (apply-bare s a)
+applied-bare : (s : Assignment) (t : Plain) → bare (applied s t) ≡ bare (applied s (bare t))
+applied-bare s (var i) = refl
+applied-bare s (con h) = refl
+applied-bare s (app f a) = ap₂ app (applied-bare s f) (applied-bare s a)
 
 -- types that are equal stay so
 pub Equals-same : (s : Assignment) (t u : Plain) → Same t u → Equals s t u
-Equals-same s t u e = apply-bare s t ∙ ap (λ z. bare (apply s z)) e ∙ sym (apply-bare s u)
+Equals-same s t u e = applied-bare s t ∙ ap (λ z. bare (applied s z)) e ∙ sym (applied-bare s u)
 
 pub AllEqual-push : (s : Assignment) (f : ℕ → Plain) (ps : List (ℕ × ℕ)) (p : ℕ × ℕ) → AllEqual s f ps → Equals s (f p.0) (f p.1) → AllEqual s f (ps ++ p ∷ [])
 AllEqual-push s f [] p h e = (e, tt)
@@ -75,14 +75,14 @@ Reduces-parts cs es old new a b g h e w =
         same = λ s. (
           (λ k.
               let r = AllEqual-front s f old (a, b) k in
-              let z : app (bare (apply s (f g.0))) (bare (apply s (f h.0))) ≡ app (bare (apply s (f g.1))) (bare (apply s (f h.1))) =
-              ap (λ t. bare (apply s t)) (sym w.left) ∙ r.1 ∙ ap (λ t. bare (apply s t)) w.right in
+              let z : app (bare (applied s (f g.0))) (bare (applied s (f h.0))) ≡ app (bare (applied s (f g.1))) (bare (applied s (f h.1))) =
+              ap (λ t. bare (applied s t)) (sym w.left) ∙ r.1 ∙ ap (λ t. bare (applied s t)) w.right in
               let y = app_parts _ _ _ _ z in
               subst (AllEqual s f) (sym two) (AllEqual-push s f (old ++ h ∷ []) g (AllEqual-push s f old h r.0 y.1) y.0)),
           (λ k.
               let r = AllEqual-front s f (old ++ h ∷ []) g (subst (AllEqual s f) two k) in
               let t = AllEqual-front s f old h r.0 in
-              AllEqual-push s f old (a, b) t.0 (ap (λ u. bare (apply s u)) w.left ∙ ap₂ app r.1 t.1 ∙ ap (λ u. bare (apply s u)) (sym w.right))),
+              AllEqual-push s f old (a, b) t.0 (ap (λ u. bare (applied s u)) w.left ∙ ap₂ app r.1 t.1 ∙ ap (λ u. bare (applied s u)) (sym w.right))),
         );
         closed = λ p q k.
             let r = EveryPair-front p q f old (a, b) k in
@@ -116,15 +116,15 @@ Asks-bind cs es old new a b x n e w =
       within = λ k. subst (AllWithin (length cs)) (sym e) (AllWithin-front (length cs) old (a, b) k).0;
     }
   where
-    there : (s : Assignment) → (seen cs es a ≡ flex x) × (seen cs es b ≡ seen cs es n) ⊎ (seen cs es b ≡ flex x) × (seen cs es a ≡ seen cs es n) → Equals s (seen cs es a) (seen cs es b) → Equals s (flex x) (seen cs es n)
-    there s (inl p) h = ap (λ t. bare (apply s t)) (sym p.0) ∙ h ∙ ap (λ t. bare (apply s t)) p.1
-    there s (inr p) h = ap (λ t. bare (apply s t)) (sym p.0) ∙ sym h ∙ ap (λ t. bare (apply s t)) p.1
+    there : (s : Assignment) → (seen cs es a ≡ var x) × (seen cs es b ≡ seen cs es n) ⊎ (seen cs es b ≡ var x) × (seen cs es a ≡ seen cs es n) → Equals s (seen cs es a) (seen cs es b) → Equals s (var x) (seen cs es n)
+    there s (inl p) h = ap (λ t. bare (applied s t)) (sym p.0) ∙ h ∙ ap (λ t. bare (applied s t)) p.1
+    there s (inr p) h = ap (λ t. bare (applied s t)) (sym p.0) ∙ sym h ∙ ap (λ t. bare (applied s t)) p.1
 
-    back : (s : Assignment) → (seen cs es a ≡ flex x) × (seen cs es b ≡ seen cs es n) ⊎ (seen cs es b ≡ flex x) × (seen cs es a ≡ seen cs es n) → Equals s (flex x) (seen cs es n) → Equals s (seen cs es a) (seen cs es b)
-    back s (inl p) h = ap (λ t. bare (apply s t)) p.0 ∙ h ∙ ap (λ t. bare (apply s t)) (sym p.1)
-    back s (inr p) h = ap (λ t. bare (apply s t)) p.1 ∙ sym h ∙ ap (λ t. bare (apply s t)) (sym p.0)
+    back : (s : Assignment) → (seen cs es a ≡ var x) × (seen cs es b ≡ seen cs es n) ⊎ (seen cs es b ≡ var x) × (seen cs es a ≡ seen cs es n) → Equals s (var x) (seen cs es n) → Equals s (seen cs es a) (seen cs es b)
+    back s (inl p) h = ap (λ t. bare (applied s t)) p.0 ∙ h ∙ ap (λ t. bare (applied s t)) (sym p.1)
+    back s (inr p) h = ap (λ t. bare (applied s t)) p.1 ∙ sym h ∙ ap (λ t. bare (applied s t)) (sym p.0)
 
-    every : (p : ℕ → Bool) (q : _) → (seen cs es a ≡ flex x) × (seen cs es b ≡ seen cs es n) ⊎ (seen cs es b ≡ flex x) × (seen cs es a ≡ seen cs es n) → Every p q (seen cs es a) → Every p q (seen cs es b) → (p x ≡ true) × Every p q (seen cs es n)
+    every : (p : ℕ → Bool) (q : _) → (seen cs es a ≡ var x) × (seen cs es b ≡ seen cs es n) ⊎ (seen cs es b ≡ var x) × (seen cs es a ≡ seen cs es n) → Every p q (seen cs es a) → Every p q (seen cs es b) → (p x ≡ true) × Every p q (seen cs es n)
     every p q (inl e) h k = (subst (Every p q) e.0 h, subst (Every p q) e.1 k)
     every p q (inr e) h k = (subst (Every p q) e.0 k, subst (Every p q) e.1 h)
 

@@ -2,10 +2,11 @@
 use Rattle.std.proofs.Common.{◌≡◌, ℕ, zero, suc, ◌+◌, ◌<◌, ◌≤◌, Bool, true, false, cond, ◌||◌, List, [], ◌∷◌, ◌++◌, length, get_or, Option, Some, None, ◌⊎◌, inl, inr, refl, sym, ap, ap₂, subst, ◌∙◌, arith, eqb-true, eq-eqb, true≢false, length-append}
 use Rattle.std.specs.Prelude.{nat_eq, if◌then◌else◌}
 use Rattle.std.specs.Map.{lookup}
-use Rattle.type_unify.specs.Types.{Plain, flex, rigid, con, app, occurs_in, replaced, Bound, resolved, IsTriangular, Clear}
+use Rattle.type_terms.specs.Terms.{var, con, app, occurs_in, replaced}
+use Rattle.type_unify.specs.Types.{Plain, rigid, Bound, resolved, IsTriangular, Clear, named}
 use Rattle.type_unify.specs.declared.cell.Cell.{Cell}
 use Rattle.type_unify.specs.declared.cell.Cell.TheVariants.{Flex, Rigid, Con, App}
-use Rattle.type_unify.specs.Cells.{at, made, built, trees, bounds_after, bounds, seen, is_flex, hops_in, hops, Wire, Inside, Holds, Stands}
+use Rattle.type_unify.specs.Cells.{at, made, built, trees, bounds_after, bounds, seen, is_flex, hops_in, hops, Wire, Inside, IsBoundAt, IsTable}
 use Rattle.type_unify.proofs.Solving.{test_cases, replaced_absent, resolved-push, resolved-app, resolved-rigid, resolved-con, Clear-resolved, Clear-app, IsTriangular-push}
 
 -- ---- types of numbers
@@ -38,10 +39,10 @@ get_or-end (x ∷ xs) y d zero h = absurd (omega arith)
 get_or-end (x ∷ xs) y d (suc i) h = get_or-end xs y d i (omega arith)
 
 pub at-push : (cs : List Cell) (c : Cell) (i : ℕ) → i < length cs → at (trees (cs ++ c ∷ [])) i ≡ at (trees cs) i
-at-push cs c i h = rw trees-push (get_or-front (trees cs) (made (trees cs) c ∷ []) i (rigid 0) (omega (arith, length-trees cs)))
+at-push cs c i h = rw trees-push (get_or-front (trees cs) (made (trees cs) c ∷ []) i (con (rigid 0)) (omega (arith, length-trees cs)))
 
 pub at-last : (cs : List Cell) (c : Cell) → at (trees (cs ++ c ∷ [])) (length cs) ≡ made (trees cs) c
-at-last cs c = rw trees-push (get_or-end (trees cs) (made (trees cs) c) (rigid 0) (length cs) (sym (length-trees cs)))
+at-last cs c = rw trees-push (get_or-end (trees cs) (made (trees cs) c) (con (rigid 0)) (length cs) (sym (length-trees cs)))
 
 -- ---- bindings
 
@@ -82,27 +83,27 @@ pub hops_in-app : (bs : List Bound) (f a : Plain) → hops_in bs (app f a) ≡ 0
 hops_in-app [] f a = refl
 hops_in-app (b ∷ bs) f a = hops_in-app bs f a
 
-pub hops_in-rigid : (bs : List Bound) (i : ℕ) → hops_in bs (rigid i) ≡ 0
+pub hops_in-rigid : (bs : List Bound) (i : ℕ) → hops_in bs (con (rigid i)) ≡ 0
 hops_in-rigid [] i = refl
 hops_in-rigid (b ∷ bs) i = hops_in-rigid bs i
 
-pub hops_in-con : (bs : List Bound) (n : _) (k : _) → hops_in bs (con n k) ≡ 0
+pub hops_in-con : (bs : List Bound) (n : _) (k : _) → hops_in bs (con (named n k)) ≡ 0
 hops_in-con [] n k = refl
 hops_in-con (b ∷ bs) n k = hops_in-con bs n k
 
 hops_in-push : (bs : List Bound) (b : Bound) (t : Plain) → hops_in (bs ++ b ∷ []) t ≡ hops_in bs t + hops_in (b ∷ []) (resolved bs t)
 hops_in-push bs b (app f a) = rw (hops_in-app, hops_in-app, resolved-app) refl
-hops_in-push bs b (rigid i) = rw (hops_in-rigid, hops_in-rigid, resolved-rigid) refl
-hops_in-push bs b (con n k) = rw (hops_in-con, hops_in-con, resolved-con) refl
-hops_in-push [] b (flex i) = omega arith
-hops_in-push (c ∷ bs) b (flex i) =
+hops_in-push bs b (con (rigid i)) = rw (hops_in-rigid, hops_in-rigid, resolved-rigid) refl
+hops_in-push bs b (con (named n k)) = rw (hops_in-con, hops_in-con, resolved-con) refl
+hops_in-push [] b (var i) = omega arith
+hops_in-push (c ∷ bs) b (var i) =
     elim (test_cases c.id i) [
       | inl p ↦ rw p.1 (omega (arith, hops_in-push bs b c.term))
-      | inr p ↦ rw p (hops_in-push bs b (flex i))
+      | inr p ↦ rw p (hops_in-push bs b (var i))
     ]
 
 -- an unknown that is no step from what it stands for is free
-pub resolved-free : (bs : List Bound) (x : ℕ) → hops_in bs (flex x) ≡ 0 → resolved bs (flex x) ≡ flex x
+pub resolved-free : (bs : List Bound) (x : ℕ) → hops_in bs (var x) ≡ 0 → resolved bs (var x) ≡ var x
 resolved-free [] x h = refl
 resolved-free (b ∷ bs) x h =
     elim (test_cases b.id x) [
@@ -113,9 +114,9 @@ resolved-free (b ∷ bs) x h =
 -- ---- what stands keeps standing
 
 -- nothing is written, nothing is bound
-pub Stands-new : Stands [] []
+pub IsTable-new : IsTable [] []
 unfolding bounds hops
-Stands-new = record {
+IsTable-new = record {
   wired = λ i c h e. absurd (omega arith);
   triangular = tt;
   holds = λ x n e. absurd (cc);
@@ -169,26 +170,26 @@ hops-cell : (cs : List Cell) (es : List (ℕ × ℕ)) (d : Cell) (t : Plain) →
 unfolding hops
 hops-cell cs es d t h = ap (λ bs. hops_in bs t) (bounds-cell cs es d h)
 
-Holds-cell : (cs : List Cell) (es : List (ℕ × ℕ)) (d : Cell) (x n : ℕ) → Inside (length cs) es → Holds cs es x n → Holds (cs ++ d ∷ []) es x n
-Holds-cell cs es d x n i h = record {
+IsBoundAt-cell : (cs : List Cell) (es : List (ℕ × ℕ)) (d : Cell) (x n : ℕ) → Inside (length cs) es → IsBoundAt cs es x n → IsBoundAt (cs ++ d ∷ []) es x n
+IsBoundAt-cell cs es d x n i h = record {
   within = omega (arith, h.within, length-append cs (d ∷ []));
-  same = ap (λ bs. resolved bs (flex x)) (bounds-cell cs es d i) ∙ h.same ∙ sym (seen-cell cs es d n i h.within);
+  same = ap (λ bs. resolved bs (var x)) (bounds-cell cs es d i) ∙ h.same ∙ sym (seen-cell cs es d n i h.within);
   nearer =
-      let far = hops-cell cs es d (flex x) i in
+      let far = hops-cell cs es d (var x) i in
       let near : hops (cs ++ d ∷ []) es (at (trees (cs ++ d ∷ [])) n) ≡ hops cs es (at (trees cs) n) =
       hops-cell cs es d _ i ∙ ap (hops cs es) (at-push cs d n h.within) in
       omega (arith, h.nearer, far, near);
 }
 
 -- one more node changes no binding and no type of an older number
-pub Stands-cell : (cs : List Cell) (es : List (ℕ × ℕ)) (d : Cell) → PartsBelow (length cs) d → Stands cs es → Stands (cs ++ d ∷ []) es
-Stands-cell cs es d p h =
+pub IsTable-cell : (cs : List Cell) (es : List (ℕ × ℕ)) (d : Cell) → PartsBelow (length cs) d → IsTable cs es → IsTable (cs ++ d ∷ []) es
+IsTable-cell cs es d p h =
     let b = bounds-cell cs es d h.inside in
     record {
       wired = Wired-push cs d p h.wired;
       triangular = subst IsTriangular (sym b) h.triangular;
-      holds = λ x n e. Holds-cell cs es d x n h.inside (h.holds x n e);
-      free = λ x e. hops-cell cs es d (flex x) h.inside ∙ h.free x e;
+      holds = λ x n e. IsBoundAt-cell cs es d x n h.inside (h.holds x n e);
+      free = λ x e. hops-cell cs es d (var x) h.inside ∙ h.free x e;
       inside = Inside-longer (length cs) (length (cs ++ d ∷ [])) es (omega (arith, length-append cs (d ∷ []))) h.inside;
     }
 
@@ -205,19 +206,19 @@ lookup-push x y n (e ∷ es) = elim (nat_eq x e.0) as (λ b. cond b (Some e.1) (
 -- an unknown is bound to a number: what is asked of both
 pub record Binds (cs : List Cell) (es : List (ℕ × ℕ)) (x n : ℕ) : Type 0 where
   pub within : n < length cs
-  pub free : hops cs es (flex x) ≡ 0
+  pub free : hops cs es (var x) ≡ 0
   pub ends : hops cs es (at (trees cs) n) ≡ 0
   pub absent : occurs_in x (seen cs es n) ≡ false
 
-seen_flex : (cs : List Cell) (es : List (ℕ × ℕ)) (x n : ℕ) → Binds cs es x n → resolved (bounds cs es) (flex x) ≡ flex x
+seen_flex : (cs : List Cell) (es : List (ℕ × ℕ)) (x n : ℕ) → Binds cs es x n → resolved (bounds cs es) (var x) ≡ var x
 unfolding hops
 seen_flex cs es x n b = resolved-free (bounds cs es) x b.free
 
-pub Clear-binds : (cs : List Cell) (es : List (ℕ × ℕ)) (x n : ℕ) → IsTriangular (bounds cs es) → Binds cs es x n → Clear (bounds cs es) (app (flex x) (seen cs es n))
+pub Clear-binds : (cs : List Cell) (es : List (ℕ × ℕ)) (x n : ℕ) → IsTriangular (bounds cs es) → Binds cs es x n → Clear (bounds cs es) (app (var x) (seen cs es n))
 unfolding seen
 Clear-binds cs es x n t b =
     let bs = bounds cs es in
-    Clear-app bs (flex x) (resolved bs (at (trees cs) n)) (subst (Clear bs) (seen_flex cs es x n b) (Clear-resolved bs (flex x) t)) (Clear-resolved bs (at (trees cs) n) t)
+    Clear-app bs (var x) (resolved bs (at (trees cs) n)) (subst (Clear bs) (seen_flex cs es x n b) (Clear-resolved bs (var x) t)) (Clear-resolved bs (at (trees cs) n) t)
 
 -- how far a type is once one more unknown is bound
 hops-push : (cs : List Cell) (es : List (ℕ × ℕ)) (x n : ℕ) (t : Plain)
@@ -239,59 +240,58 @@ pub seen_is : (cs : List Cell) (es : List (ℕ × ℕ)) (i : ℕ) → seen cs es
 unfolding seen
 seen_is cs es i = refl
 
-Holds-old : (cs : List Cell) (es : List (ℕ × ℕ)) (x n y m : ℕ) → Holds cs es y m → Holds cs (es ++ (x, n) ∷ []) y m
-Holds-old cs es x n y m h =
+IsBoundAt-old : (cs : List Cell) (es : List (ℕ × ℕ)) (x n y m : ℕ) → IsBoundAt cs es y m → IsBoundAt cs (es ++ (x, n) ∷ []) y m
+IsBoundAt-old cs es x n y m h =
     let same : seen cs es m ≡ resolved (bounds cs es) (at (trees cs) m) = seen_is cs es m in
-    let far = hops-push cs es x n (flex y) in
+    let far = hops-push cs es x n (var y) in
     let near = hops-push cs es x n (at (trees cs) m) in
-    let one : resolved (bounds cs es) (flex y) ≡ resolved (bounds cs es) (at (trees cs) m) = h.same ∙ same in
+    let one : resolved (bounds cs es) (var y) ≡ resolved (bounds cs es) (at (trees cs) m) = h.same ∙ same in
     let far' = rw one at far in
     record {
       within = h.within;
-      same = resolved-binds cs es x n (flex y) ∙ ap (replaced x (seen cs es n)) h.same ∙ sym (seen-binds cs es x n m);
+      same = resolved-binds cs es x n (var y) ∙ ap (replaced x (seen cs es n)) h.same ∙ sym (seen-binds cs es x n m);
       nearer = omega (arith, h.nearer, far', near);
     }
 
-replaced_same : (x : ℕ) (u : Plain) → replaced x u (flex x) ≡ u
+replaced_same : (x : ℕ) (u : Plain) → replaced x u (var x) ≡ u
 replaced_same x u = rw (eq-eqb x x refl) refl
 
 absent_not_flex : (x : ℕ) (t : Plain) → occurs_in x t ≡ false → is_flex x t ≡ false
-absent_not_flex x (flex i) h = h
-absent_not_flex x (rigid i) h = refl
-absent_not_flex x (con n k) h = refl
+absent_not_flex x (var i) h = h
+absent_not_flex x (con c) h = refl
 absent_not_flex x (app f a) h = refl
 
-Holds-bound : (cs : List Cell) (es : List (ℕ × ℕ)) (x n : ℕ) → Binds cs es x n → Holds cs (es ++ (x, n) ∷ []) x n
-Holds-bound cs es x n b =
+IsBoundAt-bound : (cs : List Cell) (es : List (ℕ × ℕ)) (x n : ℕ) → Binds cs es x n → IsBoundAt cs (es ++ (x, n) ∷ []) x n
+IsBoundAt-bound cs es x n b =
     let itself = seen_flex cs es x n b in
     let u = seen cs es n in
-    let far = hops-push cs es x n (flex x) in
+    let far = hops-push cs es x n (var x) in
     let near = hops-push cs es x n (at (trees cs) n) in
     let no : is_flex x (resolved (bounds cs es) (at (trees cs) n)) ≡ false = ap (is_flex x) (sym (seen_is cs es n)) ∙ absent_not_flex x u b.absent in
-    let yes : is_flex x (resolved (bounds cs es) (flex x)) ≡ true = ap (is_flex x) itself ∙ eq-eqb x x refl in
+    let yes : is_flex x (resolved (bounds cs es) (var x)) ≡ true = ap (is_flex x) itself ∙ eq-eqb x x refl in
     let far' = rw yes at far in
     let near' = rw no at near in
     record {
       within = b.within;
-      same = resolved-binds cs es x n (flex x) ∙ ap (replaced x u) itself ∙ replaced_same x u ∙ sym (seen-binds cs es x n n ∙ replaced_absent x u u b.absent);
+      same = resolved-binds cs es x n (var x) ∙ ap (replaced x u) itself ∙ replaced_same x u ∙ sym (seen-binds cs es x n n ∙ replaced_absent x u u b.absent);
       nearer = omega (arith, far', near', b.free, b.ends);
     }
 
-is_flex-other : (x y : ℕ) → nat_eq y x ≡ false → is_flex x (flex y) ≡ false
+is_flex-other : (x y : ℕ) → nat_eq y x ≡ false → is_flex x (var y) ≡ false
 is_flex-other x y p = elim (test_cases x y) [ inl e ↦ absurd (true≢false (sym (eq-eqb y x (sym e.0)) ∙ p)) | inr e ↦ e ]
 
 -- another unknown that was free stays so
-hops-other : (cs : List Cell) (es : List (ℕ × ℕ)) (x n y : ℕ) → nat_eq y x ≡ false → hops cs es (flex y) ≡ 0 → hops cs (es ++ (x, n) ∷ []) (flex y) ≡ 0
+hops-other : (cs : List Cell) (es : List (ℕ × ℕ)) (x n y : ℕ) → nat_eq y x ≡ false → hops cs es (var y) ≡ 0 → hops cs (es ++ (x, n) ∷ []) (var y) ≡ 0
 unfolding hops
 hops-other cs es x n y p h =
-    let itself : resolved (bounds cs es) (flex y) ≡ flex y = resolved-free (bounds cs es) y h in
-    let no : is_flex x (resolved (bounds cs es) (flex y)) ≡ false = ap (is_flex x) itself ∙ is_flex-other x y p in
-    let far = rw no at (hops-push cs es x n (flex y)) in
+    let itself : resolved (bounds cs es) (var y) ≡ var y = resolved-free (bounds cs es) y h in
+    let no : is_flex x (resolved (bounds cs es) (var y)) ≡ false = ap (is_flex x) itself ∙ is_flex-other x y p in
+    let far = rw no at (hops-push cs es x n (var y)) in
     far ∙ omega (arith, h)
 
 -- one more unknown is bound
-pub Stands-bind : (cs : List Cell) (es : List (ℕ × ℕ)) (x n : ℕ) → Stands cs es → Binds cs es x n → Stands cs (es ++ (x, n) ∷ [])
-Stands-bind cs es x n h b = record {
+pub IsTable-bind : (cs : List Cell) (es : List (ℕ × ℕ)) (x n : ℕ) → IsTable cs es → Binds cs es x n → IsTable cs (es ++ (x, n) ∷ [])
+IsTable-bind cs es x n h b = record {
   wired = h.wired;
   triangular = subst IsTriangular (sym (bounds-push cs es x n)) (IsTriangular-push (bounds cs es) (record { id = x; term = seen cs es n }) h.triangular (Clear-binds cs es x n h.triangular b) b.absent);
   holds = λ y m e. holds_new y m (test_cases y x) (lookup (nat_eq y) es) refl (sym (lookup-push y x n es) ∙ e);
@@ -299,17 +299,17 @@ Stands-bind cs es x n h b = record {
   inside = Inside-push (length cs) x n es h.inside b.within;
 }
   where
-    holds_new : (y m : ℕ) → (y ≡ x) × (nat_eq y x ≡ true) ⊎ (nat_eq y x ≡ false) → (r : Option ℕ) → lookup (nat_eq y) es ≡ r → or_last r (nat_eq y x) n ≡ Some m → Holds cs (es ++ (x, n) ∷ []) y m
-    holds_new y m c (Some k) f e = Holds-old cs es x n y m (h.holds y m (f ∙ e))
+    holds_new : (y m : ℕ) → (y ≡ x) × (nat_eq y x ≡ true) ⊎ (nat_eq y x ≡ false) → (r : Option ℕ) → lookup (nat_eq y) es ≡ r → or_last r (nat_eq y x) n ≡ Some m → IsBoundAt cs (es ++ (x, n) ∷ []) y m
+    holds_new y m c (Some k) f e = IsBoundAt-old cs es x n y m (h.holds y m (f ∙ e))
     holds_new y m (inl p) None f e =
         let e' : or_last None true n ≡ Some m = subst (λ v. or_last None v n ≡ Some m) p.1 e in
         let q : n ≡ m = cc in
-        subst (λ v. Holds cs (es ++ (x, n) ∷ []) v m) (sym p.0) (subst (Holds cs (es ++ (x, n) ∷ []) x) q (Holds-bound cs es x n b))
+        subst (λ v. IsBoundAt cs (es ++ (x, n) ∷ []) v m) (sym p.0) (subst (IsBoundAt cs (es ++ (x, n) ∷ []) x) q (IsBoundAt-bound cs es x n b))
     holds_new y m (inr p) None f e =
         let e' : or_last None false n ≡ Some m = subst (λ v. or_last None v n ≡ Some m) p e in
         absurd (cc)
 
-    free_new : (y : ℕ) → (y ≡ x) × (nat_eq y x ≡ true) ⊎ (nat_eq y x ≡ false) → (r : Option ℕ) → lookup (nat_eq y) es ≡ r → or_last r (nat_eq y x) n ≡ None → hops cs (es ++ (x, n) ∷ []) (flex y) ≡ 0
+    free_new : (y : ℕ) → (y ≡ x) × (nat_eq y x ≡ true) ⊎ (nat_eq y x ≡ false) → (r : Option ℕ) → lookup (nat_eq y) es ≡ r → or_last r (nat_eq y x) n ≡ None → hops cs (es ++ (x, n) ∷ []) (var y) ≡ 0
     free_new y c (Some k) f e = absurd (cc)
     free_new y (inl p) None f e =
         let e' : or_last None true n ≡ None = subst (λ v. or_last None v n ≡ None) p.1 e in

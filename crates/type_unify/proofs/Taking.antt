@@ -1,16 +1,17 @@
 -- Laws of types that are brought into a table.
 use Rattle.std.proofs.Common.{◌≡◌, ℕ, zero, suc, ◌+◌, ◌<◌, ◌≤◌, Bool, true, false, List, [], ◌∷◌, ◌++◌, length, get_or, refl, sym, ap, ap₂, subst, ◌∙◌, arith, append_assoc, append-nil, length-append}
 use Rattle.std.specs.Prelude.{if◌then◌else◌}
-use Rattle.type_unify.specs.Types.{Plain, flex, rigid, con, app}
-use Rattle.type_unify.specs.Written.{read, read_node, joined, joined_back, spelled, Spells}
+use Rattle.type_terms.specs.Terms.{var, con, app}
+use Rattle.type_unify.specs.Types.{Plain, rigid, named}
+use Rattle.type_unify.specs.Written.{read, read_node, joined, joined_back, spelled, AreNodesOf}
 use Rattle.type_unify.specs.Codes.{read-append}
 use Rattle.type_unify.specs.declared.cell.Cell.{Cell}
 use Rattle.type_unify.specs.declared.cell.Cell.TheVariants.{Flex, Rigid, Con, App}
 use Rattle.type_unify.specs.declared.term.Node.{Node}
-use Rattle.type_unify.specs.Cells.{at, made, trees, bounds, Stands}
+use Rattle.type_unify.specs.Cells.{at, made, trees, bounds, IsTable}
 use Rattle.type_unify.specs.Stacks.{Below, types_of}
 use Rattle.type_unify.specs.Taken.{IsLonger, Extends, Took, TakenIn, joining}
-use Rattle.type_unify.proofs.Tables.{at-push, at-last, bounds-cell, PartsBelow, Stands-cell}
+use Rattle.type_unify.proofs.Tables.{at-push, at-last, bounds-cell, PartsBelow, IsTable-cell}
 use Rattle.type_unify.proofs.Stacking.{Below-push, Below-front}
 
 pub IsLonger-refl : (cs : List Cell) → IsLonger cs cs
@@ -34,7 +35,7 @@ pub Extends-cell : (cs : List Cell) (c : Cell) → PartsBelow (length cs) c → 
 Extends-cell cs c p = record {
   longer = omega (arith, length-append cs (c ∷ []));
   keeps = λ i h. at-push cs c i h;
-  stands = λ es h. Stands-cell cs es c p h;
+  stands = λ es h. IsTable-cell cs es c p h;
   same = λ es h. bounds-cell cs es c h.inside;
 }
 
@@ -156,13 +157,13 @@ below_first : (m : ℕ) (is : List ℕ) (d : ℕ) → Below m is → 0 < length 
 below_first m [] d h l = absurd (omega arith)
 below_first m (i ∷ is) d h l = h.0
 
-read_whole : (first new : List Cell) (nodes all : List Node) (stack : List ℕ) → Reading first new nodes stack → nodes ≡ all → Spells all (spelled all) → types_of (at (trees new)) stack ≡ spelled all ∷ []
+read_whole : (first new : List Cell) (nodes all : List Node) (stack : List ℕ) → Reading first new nodes stack → nodes ≡ all → AreNodesOf all (spelled all) → types_of (at (trees new)) stack ≡ spelled all ∷ []
 read_whole first new nodes all stack r e h = r.types ∙ ap (read []) e ∙ h []
 
-pub one_read : (first new : List Cell) (nodes all : List Node) (stack : List ℕ) → Reading first new nodes stack → nodes ≡ all → Spells all (spelled all) → 0 < length stack
+pub one_read : (first new : List Cell) (nodes all : List Node) (stack : List ℕ) → Reading first new nodes stack → nodes ≡ all → AreNodesOf all (spelled all) → 0 < length stack
 one_read first new nodes all stack r e h = (only_one (at (trees new)) stack (spelled all) 0 (read_whole first new nodes all stack r e h)).0
 
-pub TakenIn-read : (first new : List Cell) (nodes all : List Node) (stack : List ℕ) (n : ℕ) → Reading first new nodes stack → nodes ≡ all → Spells all (spelled all) → n ≡ get_or stack 0 n → TakenIn first new (spelled all) n
+pub TakenIn-read : (first new : List Cell) (nodes all : List Node) (stack : List ℕ) (n : ℕ) → Reading first new nodes stack → nodes ≡ all → AreNodesOf all (spelled all) → n ≡ get_or stack 0 n → TakenIn first new (spelled all) n
 TakenIn-read first new nodes all stack n r e h k =
     let o = only_one (at (trees new)) stack (spelled all) n (read_whole first new nodes all stack r e h) in
     record {

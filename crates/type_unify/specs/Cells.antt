@@ -2,13 +2,14 @@
 use Rattle.std.specs.Prelude.{◌≡◌, ℕ, suc, ◌<◌, Bool, false, nat_eq, if◌then◌else◌, List, [], ◌∷◌, ◌++◌, length, Option, Some, None}
 use Rattle.std.proofs.Common.{get_or}
 use Rattle.std.specs.Map.{lookup}
-use Rattle.type_unify.specs.Types.{Plain, flex, rigid, con, app, Bound, resolved, IsTriangular}
+use Rattle.type_terms.specs.Terms.{var, con, app}
+use Rattle.type_unify.specs.Types.{Plain, rigid, Bound, resolved, IsTriangular, named}
 use Rattle.type_unify.specs.declared.cell.Cell.{Cell}
 use Rattle.type_unify.specs.declared.cell.Cell.TheVariants.{Flex, Rigid, Con, App}
 
 -- the type of this number
 abbrev pub at : List Plain → ℕ → Plain
-at ts i = get_or ts i (rigid 0)
+at ts i = get_or ts i (con (rigid 0))
 
 -- the node is no unknown
 abbrev pub NotFlex : Cell → Type 0
@@ -19,9 +20,9 @@ NotFlex (App f a) = Unit {0}
 
 -- the type of a node, from those of the numbers
 abbrev pub made : List Plain → Cell → Plain
-made ts (Flex i) = flex i
-made ts (Rigid i) = rigid i
-made ts (Con n k) = con n k
+made ts (Flex i) = var i
+made ts (Rigid i) = con (rigid i)
+made ts (Con n k) = con (named n k)
 made ts (App f a) = app (at ts f) (at ts a)
 
 abbrev pub built : List Plain → List Cell → List Plain
@@ -45,9 +46,8 @@ unfoldable pub seen : List Cell → List (ℕ × ℕ) → ℕ → Plain
 seen cs es i = resolved (bounds cs es) (at (trees cs) i)
 
 abbrev pub is_flex : ℕ → Plain → Bool
-is_flex x (flex i) = nat_eq x i
-is_flex x (rigid i) = false
-is_flex x (con n k) = false
+is_flex x (var i) = nat_eq x i
+is_flex x (con h) = false
 is_flex x (app f a) = false
 
 -- how many bindings lead from a type that is an unknown to what it stands for
@@ -60,9 +60,9 @@ hops cs es t = hops_in (bounds cs es) t
 
 -- the number's type is that of this node, whose parts are numbers of the table
 abbrev pub Wire : List Plain → ℕ → Plain → Cell → Type 0
-Wire ts m t (Flex i) = t ≡ flex i
-Wire ts m t (Rigid i) = t ≡ rigid i
-Wire ts m t (Con n k) = t ≡ con n k
+Wire ts m t (Flex i) = t ≡ var i
+Wire ts m t (Rigid i) = t ≡ con (rigid i)
+Wire ts m t (Con n k) = t ≡ con (named n k)
 Wire ts m t (App f a) = (t ≡ app (at ts f) (at ts a)) × (f < m) × (a < m)
 
 -- the entries' types are numbers below m
@@ -71,14 +71,14 @@ Inside m [] = Unit {0}
 Inside m (e ∷ es) = (e.1 < m) × Inside m es
 
 -- an entry's unknown stands for the entry's type, which is nearer to what both stand for
-pub record Holds (cs : List Cell) (es : List (ℕ × ℕ)) (x n : ℕ) : Type 0 where
+pub record IsBoundAt (cs : List Cell) (es : List (ℕ × ℕ)) (x n : ℕ) : Type 0 where
   pub within : n < length cs
-  pub same : resolved (bounds cs es) (flex x) ≡ seen cs es n
-  pub nearer : hops cs es (at (trees cs) n) < hops cs es (flex x)
+  pub same : resolved (bounds cs es) (var x) ≡ seen cs es n
+  pub nearer : hops cs es (at (trees cs) n) < hops cs es (var x)
 
-pub record Stands (cs : List Cell) (es : List (ℕ × ℕ)) : Type 0 where
+pub record IsTable (cs : List Cell) (es : List (ℕ × ℕ)) : Type 0 where
   pub wired : (i : ℕ) (c : Cell) → i < length cs → c ≡ get_or cs i c → Wire (trees cs) (length cs) (at (trees cs) i) c
   pub triangular : IsTriangular (bounds cs es)
-  pub holds : (x n : ℕ) → lookup (nat_eq x) es ≡ Some n → Holds cs es x n
-  pub free : (x : ℕ) → lookup (nat_eq x) es ≡ None → hops cs es (flex x) ≡ 0
+  pub holds : (x n : ℕ) → lookup (nat_eq x) es ≡ Some n → IsBoundAt cs es x n
+  pub free : (x : ℕ) → lookup (nat_eq x) es ≡ None → hops cs es (var x) ≡ 0
   pub inside : Inside (length cs) es

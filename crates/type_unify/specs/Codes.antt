@@ -2,24 +2,25 @@
 use Rattle.std.specs.Prelude.{◌≡◌, ℕ, List, [], ◌∷◌, ◌++◌, refl}
 use Rattle.std.specs.Coded.{Coded, code_by, coded×, coded_ℕ, coded_list}
 use mathlib.Core.Path.{ap, ◌∙◌}
-use Rattle.type_unify.specs.Types.{Plain, flex, rigid, con, app, Bound}
+use Rattle.type_terms.specs.Terms.{var, con, app}
+use Rattle.type_unify.specs.Types.{Plain, rigid, Bound, named}
 use Rattle.type_unify.specs.declared.term.Node.{Node}
 use Rattle.type_unify.specs.contracts.term.Node as node
-use Rattle.type_unify.specs.Written.{read, read_node, joined, spelled, Spells, top, nodes_of}
+use Rattle.type_unify.specs.Written.{read, read_node, joined, spelled, AreNodesOf, top, nodes_of}
 
 pub read-append : (ts : List Plain) (ms ns : List Node) → read ts (ms ++ ns) ≡ read (read ts ms) ns
 read-append ts [] ns = refl
 read-append ts (m ∷ ms) ns = read-append (read_node m ts) ms ns
 
-pub Spells-nodes_of : (t : Plain) → Spells (nodes_of t) t
-Spells-nodes_of (flex i) ts = refl
-Spells-nodes_of (rigid i) ts = refl
-Spells-nodes_of (con n k) ts = refl
-Spells-nodes_of (app f a) ts =
-    read-append ts (nodes_of f ++ nodes_of a) _ ∙ ap (λ r. joined r) (read-append ts (nodes_of f) (nodes_of a) ∙ ap (λ r. read r (nodes_of a)) (Spells-nodes_of f ts) ∙ Spells-nodes_of a (f ∷ ts))
+pub AreNodesOf-nodes_of : (t : Plain) → AreNodesOf (nodes_of t) t
+AreNodesOf-nodes_of (var i) ts = refl
+AreNodesOf-nodes_of (con (rigid i)) ts = refl
+AreNodesOf-nodes_of (con (named n k)) ts = refl
+AreNodesOf-nodes_of (app f a) ts =
+    read-append ts (nodes_of f ++ nodes_of a) _ ∙ ap (λ r. joined r) (read-append ts (nodes_of f) (nodes_of a) ∙ ap (λ r. read r (nodes_of a)) (AreNodesOf-nodes_of f ts) ∙ AreNodesOf-nodes_of a (f ∷ ts))
 
 abbrev pub coded_plain : Coded Plain
-coded_plain = code_by (List Node) (coded_list node.the_row.coded) nodes_of spelled (λ t. ap top (Spells-nodes_of t []))
+coded_plain = code_by (List Node) (coded_list node.the_row.coded) nodes_of spelled (λ t. ap top (AreNodesOf-nodes_of t []))
 
 abbrev pub coded_bounds : Coded (List Bound)
 coded_bounds =

@@ -1,6 +1,7 @@
 -- What two types ask for.
 use Rattle.std.specs.Prelude.{◌≡◌, ◌⊎◌, ℕ, ◌<◌, List, length}
-use Rattle.type_unify.specs.Types.{Plain, flex, app, Same, Assignment, Equals}
+use Rattle.type_terms.specs.Terms.{var, app}
+use Rattle.type_unify.specs.Types.{Plain, Same, Assignment, Equals}
 use Rattle.type_unify.specs.declared.cell.Cell.{Cell}
 use Rattle.type_unify.specs.declared.cell.Cell.TheVariants.{App}
 use Rattle.type_unify.specs.Cells.{seen}
@@ -27,7 +28,7 @@ pub record PartsOf (cs : List Cell) (es : List (ℕ × ℕ)) (a b : ℕ) (fun ar
 -- one is a free unknown, and the other is the type of this number
 pub record BindOf (cs : List Cell) (es : List (ℕ × ℕ)) (a b x n : ℕ) : Type 0 where
   pub free : Free cs es x n
-  pub ends : (seen cs es a ≡ flex x) × (seen cs es b ≡ seen cs es n) ⊎ (seen cs es b ≡ flex x) × (seen cs es a ≡ seen cs es n)
+  pub ends : (seen cs es a ≡ var x) × (seen cs es b ≡ seen cs es n) ⊎ (seen cs es b ≡ var x) × (seen cs es a ≡ seen cs es n)
 
 abbrev pub Tells : List Cell → List (ℕ × ℕ) → ℕ → ℕ → Difference → Type 0
 Tells cs es a b Equal = Same (seen cs es a) (seen cs es b)

@@ -1,11 +1,11 @@
 -- What a step, many steps and a whole run of unification do.
 use Rattle.std.specs.Prelude.{◌≡◌, ℕ, ◌<◌, List, [], ◌∷◌, ◌++◌, length, Bool, true, Option, Some, None}
 use Rattle.bp_base.specs.declared.ty.OrigName.{OrigName}
-use Rattle.bp_base.specs.declared.ty.Kind.{Kind}
-use Rattle.type_unify.specs.Types.{Plain, Assignment, Equals, Solves, Every, EveryBound, Bound}
+use Rattle.type_terms.specs.Terms.{Every}
+use Rattle.type_unify.specs.Types.{Head, Plain, Assignment, Equals, Solves, EveryBound, Bound}
 use Rattle.type_unify.specs.declared.cell.Cell.{Cell}
 use Rattle.type_unify.specs.declared.solve.Wanted.{Wanted}
-use Rattle.type_unify.specs.Cells.{at, trees, bounds, seen, Stands}
+use Rattle.type_unify.specs.Cells.{at, trees, bounds, seen, IsTable}
 use Rattle.type_unify.specs.Steps.{AllEqual, Follows, Asks, weight}
 
 -- no assignment makes the types of all pairs equal
@@ -31,9 +31,9 @@ Grows old new = (more : List (ℕ × ℕ)) × (new ≡ old ++ more)
 
 -- the solutions of the new bindings are those of the old ones that make the types of the two numbers equal
 pub record Solved (cs : List Cell) (old new : List (ℕ × ℕ)) (a b : ℕ) : Type 0 where
-  pub stands : Stands cs new
+  pub stands : IsTable cs new
   pub keeps : (s : Assignment) → Solves s (bounds cs new) → Solves s (bounds cs old)
   pub equal : (s : Assignment) → Solves s (bounds cs new) → Equals s (at (trees cs) a) (at (trees cs) b)
   pub all : (s : Assignment) → Solves s (bounds cs old) → Equals s (at (trees cs) a) (at (trees cs) b) → Solves s (bounds cs new)
   pub tail : (more : List Bound) × (bounds cs new ≡ bounds cs old ++ more)
-  pub closed : (p : ℕ → Bool) (q : OrigName → Kind → Bool) → EveryBound p q (bounds cs old) → Every p q (at (trees cs) a) → Every p q (at (trees cs) b) → EveryBound p q (bounds cs new)
+  pub closed : (p : ℕ → Bool) (q : Head → Bool) → EveryBound p q (bounds cs old) → Every p q (at (trees cs) a) → Every p q (at (trees cs) b) → EveryBound p q (bounds cs new)

@@ -1,6 +1,7 @@
 -- Stacks of numbers whose types are still to be looked at.
 use Rattle.std.specs.Prelude.{◌≡◌, ℕ, ◌+◌, ◌*◌, ◌<◌, Bool, true, false, ◌||◌, List, [], ◌∷◌, ◌++◌}
-use Rattle.type_unify.specs.Types.{Plain, occurs_in}
+use Rattle.type_terms.specs.Terms.{occurs_in}
+use Rattle.type_unify.specs.Types.{Plain}
 use Rattle.type_unify.specs.Written.{nodes_of}
 use Rattle.type_unify.specs.Steps.{size}
 use Rattle.type_unify.specs.declared.term.Node.{Node}

@@ -1,11 +1,11 @@
 -- The steps of unification over a table of nodes.
 use Rattle.std.specs.Prelude.{◌≡◌, ◌↔◌, ℕ, ◌+◌, ◌*◌, ◌<◌, ◌≤◌, ◌^◌, Bool, true, false, ◌||◌, List, [], ◌∷◌, ◌++◌, length}
 use Rattle.bp_base.specs.declared.ty.OrigName.{OrigName}
-use Rattle.bp_base.specs.declared.ty.Kind.{Kind}
-use Rattle.type_unify.specs.Types.{Plain, flex, rigid, con, app, Same, Assignment, Equals, occurs_in, Every, Bound, resolved, Solves, EveryBound}
+use Rattle.type_terms.specs.Terms.{var, con, app, occurs_in, Every}
+use Rattle.type_unify.specs.Types.{Head, Plain, rigid, Same, Assignment, Equals, Bound, resolved, Solves, EveryBound, named}
 use Rattle.type_unify.specs.declared.cell.Cell.{Cell}
 use Rattle.type_unify.specs.declared.cell.Cell.TheVariants.{Flex, Rigid, Con, App}
-use Rattle.type_unify.specs.Cells.{at, trees, bounds, seen, hops, Stands}
+use Rattle.type_unify.specs.Cells.{at, trees, bounds, seen, hops, IsTable}
 
 -- the number where a walk over bound unknowns ends
 pub record Walked (cs : List Cell) (es : List (ℕ × ℕ)) (start end : ℕ) : Type 0 where
@@ -21,9 +21,9 @@ pub record Nearer (cs : List Cell) (es : List (ℕ × ℕ)) (here next : ℕ) : 
 
 -- the type that is seen is that of this node
 abbrev pub Shown : List Cell → List (ℕ × ℕ) → Plain → Cell → Type 0
-Shown cs es t (Flex i) = t ≡ flex i
-Shown cs es t (Rigid i) = t ≡ rigid i
-Shown cs es t (Con n k) = t ≡ con n k
+Shown cs es t (Flex i) = t ≡ var i
+Shown cs es t (Rigid i) = t ≡ con (rigid i)
+Shown cs es t (Con n k) = t ≡ con (named n k)
 Shown cs es t (App f a) = (t ≡ app (seen cs es f) (seen cs es a)) × (f < length cs) × (a < length cs)
 
 -- two nodes other than unknowns that are one leaf
@@ -45,7 +45,7 @@ AllEqual s f [] = Unit {0}
 AllEqual s f (p ∷ ps) = Equals s (f p.0) (f p.1) × AllEqual s f ps
 
 -- every unknown and every name of the pairs passes its test
-abbrev pub EveryPair : (ℕ → Bool) → (OrigName → Kind → Bool) → (ℕ → Plain) → List (ℕ × ℕ) → Type 0
+abbrev pub EveryPair : (ℕ → Bool) → (Head → Bool) → (ℕ → Plain) → List (ℕ × ℕ) → Type 0
 EveryPair p q f [] = Unit {0}
 EveryPair p q f (e ∷ es) = Every p q (f e.0) × Every p q (f e.1) × EveryPair p q f es
 
@@ -56,9 +56,8 @@ AllWithin m (p ∷ ps) = (p.0 < m) × (p.1 < m) × AllWithin m ps
 
 -- how many nodes a type has
 abbrev pub size : Plain → ℕ
-size (flex i) = 1
-size (rigid i) = 1
-size (con n k) = 1
+size (var i) = 1
+size (con h) = 1
 size (app f a) = size f + size a + 1
 
 abbrev pub weight : (ℕ → Plain) → List (ℕ × ℕ) → ℕ
@@ -69,19 +68,19 @@ weight f (p ∷ ps) = size (f p.0) + size (f p.1) + weight f ps
 pub record Free (cs : List Cell) (es : List (ℕ × ℕ)) (x n : ℕ) : Type 0 where
   pub in_range : x < 2 ^ 64
   pub within : n < length cs
-  pub free : hops cs es (flex x) ≡ 0
+  pub free : hops cs es (var x) ≡ 0
   pub ends : hops cs es (at (trees cs) n) ≡ 0
-  pub other : seen cs es n ≡ flex x → ⊥
+  pub other : seen cs es n ≡ var x → ⊥
 
 -- equations on pairs of numbers that have the same solutions
 pub record Follows (f : ℕ → Plain) (m : ℕ) (old new : List (ℕ × ℕ)) : Type 0 where
   pub same : (s : Assignment) → AllEqual s f old ↔ AllEqual s f new
-  pub closed : (p : ℕ → Bool) (q : OrigName → Kind → Bool) → EveryPair p q f old → EveryPair p q f new
+  pub closed : (p : ℕ → Bool) (q : Head → Bool) → EveryPair p q f old → EveryPair p q f new
   pub within : AllWithin m old → AllWithin m new
 
 -- equations that ask for one more binding
 pub record Asks (cs : List Cell) (es : List (ℕ × ℕ)) (old new : List (ℕ × ℕ)) (x n : ℕ) : Type 0 where
   pub free : Free cs es x n
-  pub same : (s : Assignment) → AllEqual s (seen cs es) old ↔ Equals s (flex x) (seen cs es n) × AllEqual s (seen cs es) new
-  pub closed : (p : ℕ → Bool) (q : OrigName → Kind → Bool) → EveryPair p q (seen cs es) old → (p x ≡ true) × Every p q (seen cs es n) × EveryPair p q (seen cs es) new
+  pub same : (s : Assignment) → AllEqual s (seen cs es) old ↔ Equals s (var x) (seen cs es n) × AllEqual s (seen cs es) new
+  pub closed : (p : ℕ → Bool) (q : Head → Bool) → EveryPair p q (seen cs es) old → (p x ≡ true) × Every p q (seen cs es n) × EveryPair p q (seen cs es) new
   pub within : AllWithin (length cs) old → AllWithin (length cs) new

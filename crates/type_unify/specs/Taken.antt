@@ -5,7 +5,7 @@ use Rattle.type_unify.specs.Written.{read_node}
 use Rattle.type_unify.specs.declared.cell.Cell.{Cell}
 use Rattle.type_unify.specs.declared.term.Node.{Node}
 use Rattle.type_unify.specs.declared.term.Node.TheVariants.{App, Swapped}
-use Rattle.type_unify.specs.Cells.{at, trees, bounds, Stands}
+use Rattle.type_unify.specs.Cells.{at, trees, bounds, IsTable}
 use Rattle.type_unify.specs.Stacks.{Below, types_of}
 
 abbrev pub IsLonger : List Cell → List Cell → Type 0
@@ -15,8 +15,8 @@ IsLonger old new = (more : List Cell) × (new ≡ old ++ more)
 pub record Extends (old new : List Cell) : Type 0 where
   pub longer : length old ≤ length new
   pub keeps : (i : ℕ) → i < length old → at (trees new) i ≡ at (trees old) i
-  pub stands : (es : List (ℕ × ℕ)) → Stands old es → Stands new es
-  pub same : (es : List (ℕ × ℕ)) → Stands old es → bounds new es ≡ bounds old es
+  pub stands : (es : List (ℕ × ℕ)) → IsTable old es → IsTable new es
+  pub same : (es : List (ℕ × ℕ)) → IsTable old es → bounds new es ≡ bounds old es
 
 abbrev pub joining : Bool → Node
 joining swapped = if swapped then Swapped else App

@@ -1,8 +1,8 @@
 -- What unification promises.
 use Rattle.std.specs.Prelude.{◌≡◌, ◌↔◌, ℕ, Bool, List, ◌++◌}
 use Rattle.bp_base.specs.declared.ty.OrigName.{OrigName}
-use Rattle.bp_base.specs.declared.ty.Kind.{Kind}
-use Rattle.type_unify.specs.Types.{Plain, Assignment, Equals, Bound, Solves, IsTriangular, Every, EveryBound}
+use Rattle.type_terms.specs.Terms.{Every}
+use Rattle.type_unify.specs.Types.{Head, Plain, Assignment, Equals, Bound, Solves, IsTriangular, EveryBound}
 
 -- the solutions of the new bindings are those of the old ones that make the types equal, and there is one; the new bindings are
 -- the old ones with a tail, triangular, and what is true of each unknown and each name of the old ones and of both types is true of theirs
@@ -11,7 +11,7 @@ pub record IsUnified (old new : List Bound) (t u : Plain) : Type 0 where
   pub solvable : (s : Assignment) × Solves s new
   pub triangular : IsTriangular new
   pub tail : (more : List Bound) × (new ≡ old ++ more)
-  pub closed : (p : ℕ → Bool) (q : OrigName → Kind → Bool) → EveryBound p q old → Every p q t → Every p q u → EveryBound p q new
+  pub closed : (p : ℕ → Bool) (q : Head → Bool) → EveryBound p q old → Every p q t → Every p q u → EveryBound p q new
 
 -- no solution of the bindings makes the types equal
 abbrev pub NotSolvable : List Bound → Plain → Plain → Type 0

@@ -1,6 +1,7 @@
 -- How a type is written as a list of nodes, the parts of an application before it.
 use Rattle.std.specs.Prelude.{◌≡◌, ℕ, List, [], ◌∷◌, ◌++◌}
-use Rattle.type_unify.specs.Types.{Plain, flex, rigid, con, app}
+use Rattle.type_terms.specs.Terms.{var, con, app}
+use Rattle.type_unify.specs.Types.{Plain, rigid, named}
 use Rattle.type_unify.specs.declared.term.Node.{Node}
 use Rattle.type_unify.specs.declared.term.Node.TheVariants.{Flex, Rigid, Con, App, Swapped}
 
@@ -18,9 +19,9 @@ joined_back (f ∷ a ∷ ts) = app f a ∷ ts
 
 -- the types after one more node
 abbrev pub read_node : Node → List Plain → List Plain
-read_node (Flex i) ts = flex i ∷ ts
-read_node (Rigid i) ts = rigid i ∷ ts
-read_node (Con n k) ts = con n k ∷ ts
+read_node (Flex i) ts = var i ∷ ts
+read_node (Rigid i) ts = con (rigid i) ∷ ts
+read_node (Con n k) ts = con (named n k) ∷ ts
 read_node App ts = joined ts
 read_node Swapped ts = joined_back ts
 
@@ -30,7 +31,7 @@ read ts [] = ts
 read ts (n ∷ ns) = read (read_node n ts) ns
 
 abbrev pub top : List Plain → Plain
-top [] = rigid 0
+top [] = con (rigid 0)
 top (t ∷ ts) = t
 
 -- the type that the nodes spell
@@ -38,12 +39,12 @@ abbrev pub spelled : List Node → Plain
 spelled ns = top (read [] ns)
 
 -- the nodes spell this one type, whatever stands before them
-abbrev pub Spells : List Node → Plain → Type 0
-Spells ns t = (ts : List Plain) → read ts ns ≡ t ∷ ts
+abbrev pub AreNodesOf : List Node → Plain → Type 0
+AreNodesOf ns t = (ts : List Plain) → read ts ns ≡ t ∷ ts
 
 -- the nodes of a type, functions first
 abbrev pub nodes_of : Plain → List Node
-nodes_of (flex i) = Flex i ∷ []
-nodes_of (rigid i) = Rigid i ∷ []
-nodes_of (con n k) = Con n k ∷ []
+nodes_of (var i) = Flex i ∷ []
+nodes_of (con (rigid i)) = Rigid i ∷ []
+nodes_of (con (named n k)) = Con n k ∷ []
 nodes_of (app f a) = nodes_of f ++ nodes_of a ++ App ∷ []

@@ -2,7 +2,7 @@
 ghost use Rattle.std.specs.Prelude.{◌≡◌, [], length, slice_get, OnOk, OnErr, IfErr, IfOk};
 ghost use Rattle.type_unify.specs.Types.{ids, resolved};
 ghost use Rattle.type_unify.specs.Unified.{IsUnified, NotSolvable};
-ghost use Rattle.type_unify.specs.Cells.{bounds, Stands};
+ghost use Rattle.type_unify.specs.Cells.{bounds, IsTable};
 ghost use Rattle.type_unify.specs.Outcomes.{Grows};
 ghost use Rattle.type_unify.specs.Taken.{IsLonger};
 ghost use Rattle.type_unify.specs.Attempts.{Attempted};
@@ -27,7 +27,7 @@ impl Model for Bindings {
     ghost use Rattle.std.specs.Prelude.{List};
     ghost use Rattle.type_unify.specs.Codes.{coded_bounds};
     ghost use Rattle.type_unify.specs.Types.{Bound};
-    ghost use Rattle.type_unify.specs.Cells.{bounds, Stands};
+    ghost use Rattle.type_unify.specs.Cells.{bounds, IsTable};
 
     ghost Value = { List Bound };
 
@@ -35,7 +35,7 @@ impl Model for Bindings {
 
     ghost view = { λ b. bounds b.cells.items b.entries.entries };
 
-    ghost invariant = { λ b. Stands b.cells.items b.entries.entries };
+    ghost invariant = { λ b. IsTable b.cells.items b.entries.entries };
 }
 
 impl Bindings {
@@ -87,7 +87,7 @@ fn attempt(
     s: &Term,
     t: &Term,
 ) -> Result<(), UnifyError>
-    requires { Stands cells.old.items entries.old.entries }
+    requires { IsTable cells.old.items entries.old.entries }
     ensures ok { OnOk result (Attempted cells.old.items cells.new.items entries.old.entries entries.new.entries s.now t.now) }
     ensures longer { IsLonger cells.old.items cells.new.items }
     ensures grows { Grows entries.old.entries entries.new.entries }

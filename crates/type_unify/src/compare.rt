@@ -1,6 +1,6 @@
 //! What makes the types of two numbers equal.
 ghost use Rattle.std.specs.Prelude.{◌≡◌, ◌<◌, length};
-ghost use Rattle.type_unify.specs.Cells.{seen, Stands};
+ghost use Rattle.type_unify.specs.Cells.{seen, IsTable};
 ghost use Rattle.type_unify.specs.Differences.{Differs, Tells};
 
 use crate::cell::{Cell, flex_of};
@@ -62,7 +62,7 @@ pub fn compare(
     one: usize,
     other: usize,
 ) -> Difference
-    requires stands { Stands cells.now entries.now.entries }
+    requires stands { IsTable cells.now entries.now.entries }
     requires first { one < length cells.now }
     requires second { other < length cells.now }
     ensures { Tells cells.now entries.now.entries one other result }

@@ -1,7 +1,7 @@
 //! Whether an unknown occurs in a type with all bindings applied.
 ghost use Rattle.std.specs.Prelude.{◌≡◌, ◌<◌, ◌++◌, ◌∷◌, [], length, IfOk, OnOk};
-ghost use Rattle.type_unify.specs.Types.{occurs_in};
-ghost use Rattle.type_unify.specs.Cells.{seen, Stands};
+ghost use Rattle.type_terms.specs.Terms.{occurs_in};
+ghost use Rattle.type_unify.specs.Cells.{seen, IsTable};
 ghost use Rattle.type_unify.specs.Stacks.{Looks};
 
 use crate::cell::Cell;
@@ -26,7 +26,7 @@ fn look(
     at: usize,
     stack: &mut Vec<usize>,
 ) -> Result<bool, AllocError>
-    requires stands { Stands cells.now entries.now.entries }
+    requires stands { IsTable cells.now entries.now.entries }
     requires within { at < length cells.now }
     ensures { IfOk result (λ r. Looks (seen cells.now entries.now.entries) (length cells.now) id at stack.old.items stack.new.items r) }
 {
@@ -50,7 +50,7 @@ pub fn occurs(
     id: u64,
     at: usize,
 ) -> Result<bool, AllocError>
-    requires stands { Stands cells.now entries.now.entries }
+    requires stands { IsTable cells.now entries.now.entries }
     requires within { at < length cells.now }
     ensures { IfOk result (λ r. r ≡ occurs_in id (seen cells.now entries.now.entries at)) }
 {

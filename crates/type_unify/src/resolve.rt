@@ -1,8 +1,8 @@
 //! Types with all bindings applied.
 ghost use Rattle.std.specs.Prelude.{◌≡◌, IfOk};
 ghost use Rattle.type_unify.specs.Types.{resolved};
-ghost use Rattle.type_unify.specs.Written.{Spells, spelled, nodes_of};
-ghost use Rattle.type_unify.specs.Cells.{bounds, Stands};
+ghost use Rattle.type_unify.specs.Written.{AreNodesOf, spelled, nodes_of};
+ghost use Rattle.type_unify.specs.Cells.{bounds, IsTable};
 ghost use Rattle.type_unify.specs.Taken.{IsLonger};
 
 use crate::cell::Cell;
@@ -19,8 +19,8 @@ pub fn resolved_nodes(
     entries: &IndexMap<u64, usize>,
     nodes: &[Node],
 ) -> Result<Vec<Node>, AllocError>
-    requires stands { Stands cells.old.items entries.now.entries }
-    requires spells { Spells nodes.now (spelled nodes.now) }
+    requires stands { IsTable cells.old.items entries.now.entries }
+    requires spells { AreNodesOf nodes.now (spelled nodes.now) }
     ensures ok { IfOk result (λ out. out.items ≡ nodes_of (resolved (bounds cells.old.items entries.now.entries) (spelled nodes.now))) }
     ensures longer { IsLonger cells.old.items cells.new.items }
 {

@@ -1,7 +1,7 @@
 //! Unification over a table of nodes.
 ghost use Rattle.std.specs.Prelude.{◌≡◌, ◌<◌, ◌++◌, ◌∷◌, [], None, length, nat_eq, IfOk, OnOk, OnErr, IfErr};
 ghost use Rattle.std.specs.Map.{lookup};
-ghost use Rattle.type_unify.specs.Cells.{at, trees, bounds, seen, Stands};
+ghost use Rattle.type_unify.specs.Cells.{at, trees, bounds, seen, IsTable};
 ghost use Rattle.type_unify.specs.Steps.{AllWithin};
 ghost use Rattle.type_unify.specs.Outcomes.{Step, Advance, Refuses, Solved, Grows};
 ghost use Rattle.type_unify.specs.Unified.{NotSolvable};
@@ -65,7 +65,7 @@ fn step(
     one: usize,
     other: usize,
 ) -> Result<Option<Wanted>, UnifyError>
-    requires stands { Stands cells.now entries.now.entries }
+    requires stands { IsTable cells.now entries.now.entries }
     requires first { one < length cells.now }
     requires second { other < length cells.now }
     ensures ok { IfOk result (λ r. Step cells.now entries.now.entries (stack.old.items ++ (one, other) ∷ []) stack.new.items r) }
@@ -88,7 +88,7 @@ fn advance(
     entries: &IndexMap<u64, usize>,
     stack: &mut Vec<(usize, usize)>,
 ) -> Result<Option<Wanted>, UnifyError>
-    requires stands { Stands cells.now entries.now.entries }
+    requires stands { IsTable cells.now entries.now.entries }
     requires within { AllWithin (length cells.now) stack.old.items }
     ensures ok { IfOk result (λ r. Advance cells.now entries.now.entries stack.old.items stack.new.items r) }
     ensures none { IfErr result (λ e. e ≡ UnifyError.NoUnifier → Refuses (seen cells.now entries.now.entries) stack.old.items) }
@@ -121,7 +121,7 @@ pub fn solve(
     one: usize,
     other: usize,
 ) -> Result<(), UnifyError>
-    requires stands { Stands cells.now entries.old.entries }
+    requires stands { IsTable cells.now entries.old.entries }
     requires first { one < length cells.now }
     requires second { other < length cells.now }
     ensures ok { OnOk result (Solved cells.now entries.old.entries entries.new.entries one other) }

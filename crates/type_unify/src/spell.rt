@@ -1,7 +1,7 @@
 //! The nodes of a type with all bindings applied.
 ghost use Rattle.std.specs.Prelude.{◌≡◌, ◌<◌, ◌++◌, ◌∷◌, [], length, OnOk};
 ghost use Rattle.type_unify.specs.Written.{nodes_of};
-ghost use Rattle.type_unify.specs.Cells.{seen, Stands};
+ghost use Rattle.type_unify.specs.Cells.{seen, IsTable};
 ghost use Rattle.type_unify.specs.Spelled.{Performs};
 
 use crate::cell::Cell;
@@ -44,7 +44,7 @@ fn perform(
     tasks: &mut Vec<Task>,
     out: &mut Vec<Node>,
 ) -> Result<(), AllocError>
-    requires stands { Stands cells.now entries.now.entries }
+    requires stands { IsTable cells.now entries.now.entries }
     requires within { at < length cells.now }
     ensures { OnOk result (Performs (seen cells.now entries.now.entries) (length cells.now) at tasks.old.items tasks.new.items out.old.items out.new.items) }
 {
@@ -69,7 +69,7 @@ pub fn spell(
     start: usize,
     out: &mut Vec<Node>,
 ) -> Result<(), AllocError>
-    requires stands { Stands cells.now entries.now.entries }
+    requires stands { IsTable cells.now entries.now.entries }
     requires within { start < length cells.now }
     ensures { OnOk result (out.new.items ≡ out.old.items ++ nodes_of (seen cells.now entries.now.entries start)) }
 {

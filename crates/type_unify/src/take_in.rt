@@ -1,6 +1,6 @@
 //! Types brought into a table.
 ghost use Rattle.std.specs.Prelude.{◌≡◌, ◌++◌, ◌∷◌, [], length, if◌then◌else◌, IfOk, OnOk};
-ghost use Rattle.type_unify.specs.Written.{Spells, spelled};
+ghost use Rattle.type_unify.specs.Written.{AreNodesOf, spelled};
 ghost use Rattle.type_unify.specs.Stacks.{Below};
 ghost use Rattle.type_unify.specs.Taken.{IsLonger, Took, TakenIn, joining};
 
@@ -79,7 +79,7 @@ fn take_node(
 
 /// Brings a type into a table, and answers its number.
 pub fn take_in(alloc: Global, cells: &mut Vec<Cell>, nodes: &[Node]) -> Result<usize, AllocError>
-    requires { Spells nodes.now (spelled nodes.now) }
+    requires { AreNodesOf nodes.now (spelled nodes.now) }
     ensures ok { IfOk result (λ n. TakenIn cells.old.items cells.new.items (spelled nodes.now) n) }
     ensures longer { IsLonger cells.old.items cells.new.items }
 {

@@ -1,7 +1,8 @@
 //! Types with unknowns, of any depth.
 ghost use Rattle.std.specs.Prelude.{◌≡◌, ◌++◌, ◌∷◌, [], IfOk};
-ghost use Rattle.type_unify.specs.Types.{flex, rigid, con, app};
-ghost use Rattle.type_unify.specs.Written.{Spells, spelled};
+ghost use Rattle.type_terms.specs.Terms.{var, con, app};
+ghost use Rattle.type_unify.specs.Types.{rigid, named};
+ghost use Rattle.type_unify.specs.Written.{AreNodesOf, spelled};
 
 use bp_base::{Kind, OrigName};
 use std::alloc::{AllocError, Global};
@@ -73,17 +74,17 @@ impl Model for Term {
 
     ghost coded = { coded_plain };
 
-    ghost use Rattle.type_unify.specs.Written.{spelled, Spells};
+    ghost use Rattle.type_unify.specs.Written.{spelled, AreNodesOf};
 
     ghost view = { λ t. spelled t.nodes.items };
 
-    ghost invariant = { λ t. Spells t.nodes.items (spelled t.nodes.items) };
+    ghost invariant = { λ t. AreNodesOf t.nodes.items (spelled t.nodes.items) };
 }
 
 impl Term {
     /// An unknown by its number.
     pub fn flex(alloc: Global, id: u64) -> Result<Term, AllocError>
-        ensures { IfOk result (λ t. t ≡ flex id) }
+        ensures { IfOk result (λ t. t ≡ var id) }
     {
         let mut nodes = Vec::new(alloc);
         nodes.push(Node::Flex { id })?;
@@ -92,7 +93,7 @@ impl Term {
 
     /// A rigid variable by its number.
     pub fn rigid(alloc: Global, id: u64) -> Result<Term, AllocError>
-        ensures { IfOk result (λ t. t ≡ rigid id) }
+        ensures { IfOk result (λ t. t ≡ con (rigid id)) }
     {
         let mut nodes = Vec::new(alloc);
         nodes.push(Node::Rigid { id })?;
@@ -101,7 +102,7 @@ impl Term {
 
     /// An original name with its kind.
     pub fn con(alloc: Global, name: OrigName, kind: Kind) -> Result<Term, AllocError>
-        ensures { IfOk result (λ t. t ≡ con name kind) }
+        ensures { IfOk result (λ t. t ≡ con (named name kind)) }
     {
         let mut nodes = Vec::new(alloc);
         nodes.push(Node::Con { name, kind })?;
@@ -135,14 +136,14 @@ impl Term {
 
     /// The nodes of the type, the parts of an application before it.
     pub fn nodes(&self) -> &[Node]
-        ensures { Spells result.now self.now }
+        ensures { AreNodesOf result.now self.now }
     {
         self.nodes.as_slice()
     }
 
     // The type that the nodes spell.
     pub(crate) fn from_nodes(nodes: Vec<Node>) -> Term
-        requires { Spells nodes.items (spelled nodes.items) }
+        requires { AreNodesOf nodes.items (spelled nodes.items) }
         ensures { result ≡ spelled nodes.items }
     {
         Term { nodes }

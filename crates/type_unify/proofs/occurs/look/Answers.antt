@@ -1,5 +1,5 @@
 use Rattle.std.proofs.Common.{refl, ap, length}
-use Rattle.type_unify.specs.Types.{occurs_in}
+use Rattle.type_terms.specs.Terms.{occurs_in}
 use Rattle.type_unify.specs.Cells.{seen}
 use Rattle.type_unify.proofs.Seeing.{shows_flex_at, shows_rigid_at, shows_con_at, shows_app_at}
 use Rattle.type_unify.proofs.Stacking.{Looks-flex, Unseen-leaf, Unseen-app}
@@ -7,7 +7,7 @@ use Rattle.type_unify.proofs.occurs.look.Goals as goal
 
 pub returns-in-Flex : goal.returns-in-Flex
 returns-in-Flex c =
-    Looks-flex (seen c.args.cells.now c.args.entries.now.entries) (length c.args.cells.now) c.args.id c.args.at c.in-Flex.other _ _ _ refl
+    Looks-var (seen c.args.cells.now c.args.entries.now.entries) (length c.args.cells.now) c.args.id c.args.at c.in-Flex.other _ _ _ refl
     (shows_flex_at c.args.cells.now c.args.entries.now.entries c.args.at c.walk-end.result _ _ c.requires.stands c.walk-end.ensures c.index-cells-end.is c.in-Flex.is) refl
 
 pub returns-in-Rigid : goal.returns-in-Rigid

@@ -1,5 +1,5 @@
 use Rattle.std.proofs.Common.{◌≡◌, length}
-use Rattle.type_unify.specs.Types.{occurs_in}
+use Rattle.type_terms.specs.Terms.{occurs_in}
 use Rattle.type_unify.specs.Cells.{seen}
 use Rattle.type_unify.specs.Stacks.{occurs_among, sizes, Below}
 use Rattle.type_unify.proofs.occurs.occurs.Given as goal

@@ -1,5 +1,6 @@
 use Rattle.std.proofs.Common.{ap, ap₂, sym, subst, ◌∙◌, ◌∷◌, List}
-use Rattle.type_unify.specs.Types.{Plain, con}
+use Rattle.type_terms.specs.Terms.{con}
+use Rattle.type_unify.specs.Types.{Plain, named}
 use Rattle.type_unify.specs.Written.{read_node}
 use Rattle.type_unify.specs.Taken.{Took}
 use Rattle.type_unify.specs.declared.cell.Cell.TheVariants.{Flex, Rigid, Con}
@@ -23,5 +24,5 @@ pub returns-in_ok-kind-in-Con-clause-ok : goal.returns-in_ok-kind-in-Con-clause-
 returns-in_ok-kind-in-Con-clause-ok c =
     OnOk-both c.put-in-Con.result
     (λ g a. Took-cell c.args.node.now c.args.cells.now.items c.put-in-Con.new.cells.items c.args.stack.now.items c.put-in-Con.new.stack.items (Con c.in_ok-name-in-Con.name c.in_ok-kind-in-Con.kind) g a tt
-    (λ (ts : List Plain). ap (λ n. read_node n ts) c.in-Con.is ∙ sym (ap₂ (λ n k. con n k ∷ ts) c.in_ok-name-in-Con.ensures c.in_ok-kind-in-Con.ensures)))
+    (λ (ts : List Plain). ap (λ n. read_node n ts) c.in-Con.is ∙ sym (ap₂ (λ n k. con (named n k) ∷ ts) c.in_ok-name-in-Con.ensures c.in_ok-kind-in-Con.ensures)))
     c.put-in-Con.ensures.cells c.put-in-Con.ensures.stack

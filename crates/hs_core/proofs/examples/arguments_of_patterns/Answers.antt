@@ -1,5 +1,0 @@
-use Rattle.hs_core.proofs.Smaller.{arguments_are_counted}
-use Rattle.hs_core.proofs.examples.arguments_of_patterns.Goals as goal
-
-pub returns : goal.returns
-returns c = arguments_are_counted

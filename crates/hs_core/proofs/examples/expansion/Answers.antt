@@ -1,5 +1,0 @@
-use Rattle.hs_core.proofs.Smaller.{string_expands}
-use Rattle.hs_core.proofs.examples.expansion.Goals as goal
-
-pub returns : goal.returns
-returns c = string_expands

@@ -1,5 +1,0 @@
-use Rattle.hs_core.proofs.Refuting.{kinds_are_kept}
-use Rattle.hs_core.proofs.examples.kinds_of_variables.Goals as goal
-
-pub returns : goal.returns
-returns c = kinds_are_kept

@@ -1,5 +1,0 @@
-use Rattle.hs_core.proofs.Smaller.{kinds_are_least}
-use Rattle.hs_core.proofs.examples.least_kinds.Goals as goal
-
-pub returns : goal.returns
-returns c = kinds_are_least

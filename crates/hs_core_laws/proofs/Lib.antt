@@ -1,0 +1,10 @@
+pub mod Deriving
+pub mod Derivations
+pub mod Refuting
+pub mod Smaller
+pub mod SeveralClauses
+pub mod StabilityLemmas
+pub mod Bindings
+pub mod NameExamples
+pub mod LocalExamples
+pub mod ModuleExamples

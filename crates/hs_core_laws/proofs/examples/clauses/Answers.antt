@@ -1,0 +1,5 @@
+use Rattle.hs_core_laws.proofs.SeveralClauses.{clauses_are_typed}
+use Rattle.hs_core_laws.proofs.examples.clauses.Goals as goal
+
+pub returns : goal.returns
+returns c = clauses_are_typed

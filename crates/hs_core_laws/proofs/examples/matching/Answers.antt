@@ -1,0 +1,5 @@
+use Rattle.hs_core_laws.proofs.Smaller.{values_match}
+use Rattle.hs_core_laws.proofs.examples.matching.Goals as goal
+
+pub returns : goal.returns
+returns c = values_match
