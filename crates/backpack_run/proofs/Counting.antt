@@ -9,7 +9,7 @@ use Rattle.hs_plain.specs.declared.plain.Binding.{Binding}
 use Rattle.hs_plain.specs.declared.plain.PlainModule.{PlainModule}
 use Rattle.backpack_run.specs.Counts.{Counts}
 use Rattle.backpack_run.specs.Given.{read_target, typed}
-use Rattle.backpack_run.specs.Refused.{Wrong, defect_at}
+use Rattle.bp_checks.specs.Refused.{Wrong, defect_at}
 use Rattle.backpack_run.specs.Typing.{Entry, entries_of, IsFirstIll}
 use Rattle.backpack_run.proofs.Exact.{IsExact-read}
 

@@ -6,8 +6,8 @@ use Rattle.bp_checks.specs.Check.{IsExact}
 use Rattle.bp_base.specs.Texts.{Text}
 use Rattle.bp_base.specs.declared.code.Code.TheVariants.{ProjectSyntax, ComponentSyntax, NoComponent, Syntax, IllTyped}
 use Rattle.bp_base.specs.declared.defect.Item.TheVariants.{Offset, Line, Named}
-use Rattle.bp_base.specs.declared.defect.Defect.{Defect}
 use Rattle.bp_checks.proofs.CheckLemmas.{IsExact-then, IsExact-given}
+use Rattle.bp_checks.proofs.RefusedLemmas.{IsExact-spelled, IsExact-needed}
 use Rattle.bp_edges.specs.declared.files.File.{File}
 use Rattle.bp_edges.specs.Files.{content_at}
 use Rattle.hs_plain.specs.declared.plain.Binding.{Binding}
@@ -17,9 +17,9 @@ use Rattle.backpack_run.specs.Lead.{lead_len}
 use Rattle.backpack_run.specs.Lexical.{Leads, skip_blanks, Lexes}
 use Rattle.backpack_run.specs.Paths.{project_path, package_path, module_path}
 use Rattle.backpack_run.specs.Project.{IsProject, IsPackage}
-use Rattle.backpack_run.specs.Refused.{Refused, Wrong, defect_at}
+use Rattle.bp_checks.specs.Refused.{Refused, Wrong, defect_at, needed}
 use Rattle.backpack_run.specs.Source.{AreItems, module_tokens, Spells}
-use Rattle.backpack_run.specs.Stages.{HasFile, IsTooLong, file, spelled, needed}
+use Rattle.backpack_run.specs.Stages.{HasFile, IsTooLong, file}
 use Rattle.backpack_run.specs.Typing.{Entry, entries_of, IsTyped, AreTyped}
 use Rattle.backpack_run.proofs.Building.{item_shape, first_item}
 use Rattle.backpack_run.proofs.Lexing.{lead_len-complete, nothing_left}
@@ -58,20 +58,6 @@ module _ (files : List File) (path component at : Text) where
     one_refusal = λ r q h k. file_refusal r q h k;
     never_both = λ c r f h. file_never c r f h;
   }
-
-IsExact-spelled : {B : Type 0} (IsOfForm : B → Type 0) (d : Defect) → ((b c : B) → IsOfForm b → IsOfForm c → b ≡ c) → IsExact (spelled IsOfForm d)
-IsExact-spelled IsOfForm d one = record {
-  one_answer = one;
-  one_refusal = λ r q h k. h.1 ∙ sym k.1;
-  never_both = λ b r p h. h.0 b p;
-}
-
-IsExact-needed : (P : Type 0) (d : Defect) → IsExact (needed P d)
-IsExact-needed P d = record {
-  one_answer = λ b c p q. refl;
-  one_refusal = λ r q h k. h.1 ∙ sym k.1;
-  never_both = λ b r p h. h.0 p;
-}
 
 -- the project file and the package file
 

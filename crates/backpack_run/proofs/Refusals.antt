@@ -8,18 +8,12 @@ use Rattle.bp_edges.specs.declared.files.File.{File}
 use Rattle.hs_plain.specs.declared.plain.PlainModule.{PlainModule}
 use Rattle.backpack_run.specs.Paths.{package_path}
 use Rattle.backpack_run.specs.Project.{IsProject, IsPackage}
-use Rattle.backpack_run.specs.Refused.{Refused as Refusal, Wrong, Passed, defect_at}
+use Rattle.bp_checks.specs.Refused.{Refused as Refusal, defect_at, spelled}
 use Rattle.backpack_run.specs.Source.{Spells}
-use Rattle.backpack_run.specs.Stages.{HasFile, file, spelled}
-use Rattle.backpack_run.specs.Stop.{OnRefused}
-use Rattle.backpack_run.specs.declared.load.Stop.{Stop}
-use Rattle.backpack_run.specs.declared.load.Stop.TheVariants.{Refused, Limit, ReadFault, NoMemory}
-
-pub refused-map : (stop : Stop) (P Q : Refusal → Type 0) → ((r : Refusal) → P r → Q r) → OnRefused stop P → OnRefused stop Q
-refused-map (Refused d) P Q f h = f (Wrong d) h
-refused-map (Limit hit) P Q f h = f (Passed hit) h
-refused-map ReadFault P Q f h = tt
-refused-map NoMemory P Q f h = tt
+use Rattle.backpack_run.specs.Stages.{HasFile, file}
+use Rattle.bp_checks.specs.Stop.{OnStop}
+use Rattle.bp_checks.specs.declared.stop.Stop.{Stop}
+use Rattle.bp_checks.proofs.RefusedLemmas.{OnStop-map}
 
 -- what is asked of the content of each file
 abbrev pub in_project : Text → Check Text Refusal
@@ -33,9 +27,9 @@ in_source name at content = spelled (λ m. (m.name ≡ at) × Spells m content) 
 
 -- a check that begins with a file, which was read at a path that is the same
 module _ {B : Type 0} (files : List File) (path component at : Text) (next : Text → Check B Refusal) where
-  pub file_fails : (read : Text) (stop : Stop) → read ≡ path → OnRefused stop (file files read component at).fails → OnRefused stop (file files path component at >>= next).fails
+  pub file_fails : (read : Text) (stop : Stop) → read ≡ path → OnStop stop (file files read component at).fails → OnStop stop (file files path component at >>= next).fails
   file_fails read stop e h =
-      refused-map stop (file files path component at).fails (file files path component at >>= next).fails (λ r z. inl z) (subst (λ (p : Text). OnRefused stop (file files p component at).fails) e h)
+      OnStop-map stop (file files path component at).fails (file files path component at >>= next).fails (λ r z. inl z) (subst (λ (p : Text). OnStop stop (file files p component at).fails) e h)
 
   pub then_passes : (read content : Text) (b : B) → read ≡ path → HasFile files read content → (next content).passes b → (file files path component at >>= next).passes b
   then_passes read content b e h p = (content, subst (λ (q : Text). HasFile files q content) e h, p)

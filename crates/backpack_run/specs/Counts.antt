@@ -4,7 +4,7 @@ use Rattle.bp_base.specs.Texts.{Text}
 use Rattle.bp_edges.specs.declared.files.File.{File}
 use Rattle.hs_plain.specs.declared.plain.PlainModule.{PlainModule}
 use Rattle.backpack_run.specs.Given.{read_target}
-use Rattle.backpack_run.specs.Refused.{Refused}
+use Rattle.bp_checks.specs.Refused.{Refused}
 use Rattle.backpack_run.specs.declared.report.Status.{Status}
 use Rattle.backpack_run.specs.declared.report.Status.TheVariants.{Done}
 

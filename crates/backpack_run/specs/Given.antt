@@ -10,9 +10,9 @@ use Rattle.hs_plain.specs.declared.plain.PlainModule.{PlainModule}
 use Rattle.hs_plain.specs.Text.{IsFlatText}
 use Rattle.backpack_run.specs.Paths.{project_path, package_path, module_path}
 use Rattle.backpack_run.specs.Project.{IsProject, IsPackage}
-use Rattle.backpack_run.specs.Refused.{Refused, Wrong, defect_at}
+use Rattle.bp_checks.specs.Refused.{Refused, Wrong, defect_at, spelled, needed}
 use Rattle.backpack_run.specs.Source.{Spells}
-use Rattle.backpack_run.specs.Stages.{file, spelled, needed}
+use Rattle.backpack_run.specs.Stages.{file}
 use Rattle.backpack_run.specs.Typing.{entries_of, AreTyped, IsFirstIll}
 
 -- the package that the project names

@@ -8,11 +8,9 @@ pub mod Lexical
 pub mod Paths
 pub mod Project
 pub mod ReadBack
-pub mod Refused
 pub mod Report
 pub mod Shape
 pub mod Source
 pub mod Stages
-pub mod Stop
 pub mod Typing
 pub mod Words

@@ -2,31 +2,11 @@
 ghost use Rattle.std.specs.Prelude.{◌≡◌, [], IfOk};
 ghost use Rattle.bp_base.specs.declared.code.Code.TheVariants.{NoSource, ProjectSyntax, ComponentSyntax, NoComponent, Syntax, IllTyped};
 ghost use Rattle.bp_base.specs.declared.defect.Item.TheVariants.{Offset, Line, Named};
-ghost use Rattle.backpack_run.specs.Refused.{defect_at};
+ghost use Rattle.bp_checks.specs.Refused.{defect_at};
 
-use bp_base::{Code, Defect, Item, Name, Path, Place};
+use bp_base::{Code, Defect, Item, Name, Path};
+use bp_checks::defect_at;
 use std::alloc::{AllocError, Global};
-
-fn defect_at(
-    alloc: Global,
-    code: Code,
-    component: &[u8],
-    at: &[u8],
-    item: Item,
-) -> Result<Defect, AllocError>
-    ensures { IfOk result (λ defect. defect ≡ defect_at code component.now at.now item) }
-{
-    let component = Name::from_bytes(alloc, component)?;
-    let module = Name::from_bytes(alloc, at)?;
-    Ok(Defect {
-        code,
-        place: Place {
-            component,
-            module,
-            item,
-        },
-    })
-}
 
 /// A file is absent.
 pub fn no_source(

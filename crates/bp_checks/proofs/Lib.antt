@@ -3,5 +3,6 @@ pub mod WalkLemmas
 pub mod ReachedLemmas
 pub mod EndingLemmas
 pub mod RefusedLemmas
+pub mod TellsLemmas
 pub mod LoopLemmas
 pub mod StepLemmas
