@@ -3,47 +3,52 @@ use Rattle.std.specs.Prelude.{ℕ, Bool, true, false, List, codes, bytes_eq, if�
 use Rattle.hs_tokens.specs.declared.token.Token.{Token}
 use Rattle.hs_tokens.specs.declared.token.TokenKind.{TokenKind}
 use Rattle.hs_tokens.specs.declared.token.TokenKind.TheVariants as k
+use Rattle.hs_tokens.specs.declared.word.Word.{Word}
+use Rattle.hs_tokens.specs.declared.word.Word.TheVariants as w
+use Rattle.hs_tokens.specs.declared.terminal.Terminal.{Terminal}
+use Rattle.hs_tokens.specs.declared.terminal.Terminal.TheVariants as t
+use Rattle.hs_tokens.specs.Terminals.{special_of, reserved_of}
 use Rattle.haskell_layout.specs.declared.role.Role.{Role}
 use Rattle.haskell_layout.specs.declared.role.Role.TheVariants as r
 use Rattle.haskell_layout.specs.declared.role.Made.{Made}
 use Rattle.haskell_layout.specs.declared.role.Made.TheVariants as m
 
--- a special token, by its character
-abbrev pub special_role : List ℕ → Role
-special_role text =
-    if bytes_eq text (codes "(") then r.OpenParen else
-    (if bytes_eq text (codes ")") then r.CloseParen else
-    (if bytes_eq text (codes "[") then r.OpenBracket else
-    (if bytes_eq text (codes "]") then r.CloseBracket else
-    (if bytes_eq text (codes "{") then r.OpenBrace else
-    (if bytes_eq text (codes "}") then r.CloseBrace else
-    (if bytes_eq text (codes ",") then r.Comma else
-    (if bytes_eq text (codes ";") then r.Semicolon else r.Other)))))))
+abbrev pub word_role : Word → Role
+word_role w.If = r.If
+word_role w.Then = r.Then
+word_role w.Else = r.Else
+word_role w.Case = r.Case
+word_role w.Of = r.Of
+word_role w.Let = r.Let
+word_role w.In = r.In
+word_role w.Where = r.Where
+word_role w.Module = r.Header
+word_role _ = r.Other
 
--- a reserved word or symbol
-abbrev pub reserved_role : List ℕ → Role
-reserved_role text =
-    if bytes_eq text (codes "if") then r.If else
-    (if bytes_eq text (codes "then") then r.Then else
-    (if bytes_eq text (codes "else") then r.Else else
-    (if bytes_eq text (codes "case") then r.Case else
-    (if bytes_eq text (codes "of") then r.Of else
-    (if bytes_eq text (codes "let") then r.Let else
-    (if bytes_eq text (codes "in") then r.In else
-    (if bytes_eq text (codes "where") then r.Where else
-    (if bytes_eq text (codes "\\") then r.Lambda else
-    (if bytes_eq text (codes "|") then r.Bar else
-    (if bytes_eq text (codes "->") then r.Arrow else
-    (if bytes_eq text (codes "=") then r.Equals else
-    (if bytes_eq text (codes "module") then r.Header else r.Other))))))))))))
+-- brackets, separators, reserved symbols and words
+abbrev pub terminal_role : Terminal → Role
+terminal_role t.LeftParen = r.OpenParen
+terminal_role t.RightParen = r.CloseParen
+terminal_role t.LeftBracket = r.OpenBracket
+terminal_role t.RightBracket = r.CloseBracket
+terminal_role t.LeftBrace = r.OpenBrace
+terminal_role t.RightBrace = r.CloseBrace
+terminal_role t.Comma = r.Comma
+terminal_role t.Semicolon = r.Semicolon
+terminal_role t.Backslash = r.Lambda
+terminal_role t.Bar = r.Bar
+terminal_role t.Arrow = r.Arrow
+terminal_role t.Equals = r.Equals
+terminal_role (t.Word word) = word_role word
+terminal_role _ = r.Other
 
 -- a name: `signature` is no reserved word
 abbrev pub name_role : List ℕ → Role
 name_role text = if bytes_eq text (codes "signature") then r.Header else r.Other
 
 abbrev pub role_by : TokenKind → List ℕ → Role
-role_by k.Special text = special_role text
-role_by k.Reserved text = reserved_role text
+role_by k.Special text = terminal_role (special_of text)
+role_by k.Reserved text = terminal_role (reserved_of text)
 role_by k.Var text = name_role text
 role_by _ text = r.Other
 

@@ -1,9 +1,9 @@
 //! What a token is to layout, and the tokens that layout makes.
 ghost use Rattle.std.specs.Prelude.{◌≡◌, IfOk};
-ghost use Rattle.haskell_layout.specs.Role.{role_of, special_role, reserved_role, name_role, made_token, makes_due, begins_item};
+ghost use Rattle.haskell_layout.specs.Role.{role_of, terminal_role, word_role, name_role, made_token, makes_due, begins_item};
 
 use bp_base::Bytes;
-use hs_tokens::{Token, TokenKind};
+use hs_tokens::{Terminal, Token, TokenKind, Word, reserved_of, special_of};
 use std::alloc::{AllocError, Global};
 
 /// What a token is to layout.
@@ -48,71 +48,52 @@ pub enum Made {
     Semicolon,
 }
 
-fn special_role(text: &[u8]) -> Role
-    ensures { result ≡ special_role text.now }
+/// What a terminal is to layout.
+fn terminal_role(terminal: &Terminal) -> Role
+    ensures { result ≡ terminal_role terminal.now }
 {
-    if text == b"(".as_slice() {
-        Role::OpenParen
-    } else if text == b")".as_slice() {
-        Role::CloseParen
-    } else if text == b"[".as_slice() {
-        Role::OpenBracket
-    } else if text == b"]".as_slice() {
-        Role::CloseBracket
-    } else if text == b"{".as_slice() {
-        Role::OpenBrace
-    } else if text == b"}".as_slice() {
-        Role::CloseBrace
-    } else if text == b",".as_slice() {
-        Role::Comma
-    } else if text == b";".as_slice() {
-        Role::Semicolon
-    } else {
-        Role::Other
+    match terminal {
+        Terminal::LeftParen => Role::OpenParen,
+        Terminal::RightParen => Role::CloseParen,
+        Terminal::LeftBracket => Role::OpenBracket,
+        Terminal::RightBracket => Role::CloseBracket,
+        Terminal::LeftBrace => Role::OpenBrace,
+        Terminal::RightBrace => Role::CloseBrace,
+        Terminal::Comma => Role::Comma,
+        Terminal::Semicolon => Role::Semicolon,
+        Terminal::Backslash => Role::Lambda,
+        Terminal::Bar => Role::Bar,
+        Terminal::Arrow => Role::Arrow,
+        Terminal::Equals => Role::Equals,
+        Terminal::Word(word) => word_role(*word),
+        _ => Role::Other,
     }
 }
 
-fn reserved_role(text: &[u8]) -> Role
-    ensures { result ≡ reserved_role text.now }
+fn word_role(word: Word) -> Role
+    ensures { result ≡ word_role word }
 {
-    if text == b"if".as_slice() {
-        Role::If
-    } else if text == b"then".as_slice() {
-        Role::Then
-    } else if text == b"else".as_slice() {
-        Role::Else
-    } else if text == b"case".as_slice() {
-        Role::Case
-    } else if text == b"of".as_slice() {
-        Role::Of
-    } else if text == b"let".as_slice() {
-        Role::Let
-    } else if text == b"in".as_slice() {
-        Role::In
-    } else if text == b"where".as_slice() {
-        Role::Where
-    } else if text == b"\\".as_slice() {
-        Role::Lambda
-    } else if text == b"|".as_slice() {
-        Role::Bar
-    } else if text == b"->".as_slice() {
-        Role::Arrow
-    } else if text == b"=".as_slice() {
-        Role::Equals
-    } else if text == b"module".as_slice() {
-        Role::Header
-    } else {
-        Role::Other
+    match word {
+        Word::If => Role::If,
+        Word::Then => Role::Then,
+        Word::Else => Role::Else,
+        Word::Case => Role::Case,
+        Word::Of => Role::Of,
+        Word::Let => Role::Let,
+        Word::In => Role::In,
+        Word::Where => Role::Where,
+        Word::Module => Role::Header,
+        _ => Role::Other,
     }
 }
 
+/// `signature` is a name that begins a header.
 fn name_role(text: &[u8]) -> Role
     ensures { result ≡ name_role text.now }
 {
-    if text == b"signature".as_slice() {
-        Role::Header
-    } else {
-        Role::Other
+    match text {
+        b"signature" => Role::Header,
+        _ => Role::Other,
     }
 }
 
@@ -120,10 +101,11 @@ fn name_role(text: &[u8]) -> Role
 pub fn role_of(token: &Token) -> Role
     ensures { result ≡ role_of token.now }
 {
+    let text = token.text.as_bytes();
     match token.kind {
-        TokenKind::Special => special_role(token.text.as_bytes()),
-        TokenKind::Reserved => reserved_role(token.text.as_bytes()),
-        TokenKind::Var => name_role(token.text.as_bytes()),
+        TokenKind::Special => terminal_role(&special_of(text)),
+        TokenKind::Reserved => terminal_role(&reserved_of(text)),
+        TokenKind::Var => name_role(text),
         _ => Role::Other,
     }
 }

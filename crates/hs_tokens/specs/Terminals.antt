@@ -29,7 +29,7 @@ symbols =
     ∷ (codes "|", t.Bar) ∷ (codes "\\", t.Backslash) ∷ (codes "@", t.At) ∷ (codes "~", t.Tilde) ∷ (codes "::", t.DoubleColon)
     ∷ (codes "..", t.DotDot) ∷ (codes "=>", t.DoubleArrow) ∷ []
 
-unfoldable pub special_of : List ℕ → Terminal
+abbrev pub special_of : List ℕ → Terminal
 special_of text = unwrap_or (lookup (bytes_eq text) specials) t.Other
 
 unfoldable pub symbol_of : List ℕ → Option Terminal
@@ -45,7 +45,7 @@ abbrev pub reserved_of : List ℕ → Terminal
 reserved_of text = reserved_by (symbol_of text) (word_of text)
 
 -- a word or symbol that Haskell reserves
-abbrev pub is_reserved : List ℕ → Bool
+unfoldable pub is_reserved : List ℕ → Bool
 is_reserved text = is_some (symbol_of text) || is_some (word_of text)
 
 abbrev pub named : Bool → Terminal → Terminal → Terminal

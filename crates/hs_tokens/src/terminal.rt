@@ -70,7 +70,6 @@ pub enum Terminal {
 pub type Terminals = Items<Terminal>;
 
 /// What a special token is, by its one character.
-#[tactic(auto, unfolding(crate::specs::Terminals::special_of))]
 pub fn special_of(text: &[u8]) -> Terminal
     ensures { result ≡ special_of text.now }
 {
@@ -122,6 +121,7 @@ pub fn reserved_of(text: &[u8]) -> Terminal
 }
 
 /// Whether Haskell reserves the text, be it a word or a symbol.
+#[tactic(auto, unfolding(crate::specs::Terminals::is_reserved))]
 pub fn is_reserved(text: &[u8]) -> bool
     ensures { result ≡ is_reserved text.now }
 {
