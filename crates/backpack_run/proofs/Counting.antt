@@ -18,14 +18,6 @@ pub counted : (files : List File) (target : Text) (m : PlainModule) (n : ℕ) �
 counted files target m n p (inl (k, q, e)) = e ∙ ap (λ (x : PlainModule). length x.bindings) ((IsExact-read files target).one_answer k m q p)
 counted files target m n p (inr (r, f, e)) = absurd ((IsExact-read files target).never_both m r p f)
 
--- where the first ill-typed value stands
-pub ill_within : (globals : List Entry) (bindings : List Binding) (place : ℕ) → IsFirstIll globals bindings place → place < length bindings
-ill_within globals bindings place f =
-    let e = ap length f.parts in
-    let n = length-append f.before (f.it ∷ f.after) in
-    let b = f.behind in
-    omega (arith, e, n, b)
-
 at_middle : (before : List Binding) (it : Binding) (after : List Binding) (d : Binding) → get_or (before ++ it ∷ after) (length before) d ≡ it
 at_middle [] it after d = refl
 at_middle (b ∷ before) it after d = at_middle before it after d

@@ -5,6 +5,7 @@ use Rattle.std.proofs.lemmas.Bool.Decides.{nat_tests}
 use Rattle.std.proofs.lemmas.Grind.{common_steps}
 use Rattle.std.proofs.lemmas.List.{take-append-drop}
 use Rattle.std.proofs.Math.Seq.{take-append_seam, drop-append_seam}
+use Rattle.std.proofs.lemmas.Bool.{and_parts, or_cases}
 use Rattle.bp_base.specs.Lists.{IsOnly, SoFar}
 use Rattle.bp_base.proofs.Reading.{SoFar-step, SoFar-end, SoFar-none}
 use Rattle.bp_base.proofs.Texts.{same_texts}
@@ -22,10 +23,6 @@ word_len-run : (text rest : List ℕ) → list_all is_word_char text ≡ true �
 word_len-run [] [] h s = refl
 word_len-run [] (r ∷ rest) h s = rw s refl
 word_len-run (b ∷ bs) rest h s = grind (arith, common_steps, word_len-run bs rest)
-
-word_len-le : (text : List ℕ) → word_len text ≤ length text
-word_len-le [] = omega arith
-word_len-le (b ∷ bs) = grind (arith, common_steps, word_len-le bs)
 
 word_len-all : (text : List ℕ) → list_all is_word_char (take (word_len text) text) ≡ true
 word_len-all [] = refl
@@ -46,10 +43,6 @@ word_len-first (b ∷ bs) h = grind (arith, common_steps, nat_tests)
 
 word_len-starts : (text : List ℕ) → 0 < word_len text → starts_word (take (word_len text) text) ≡ true
 word_len-starts text h = starts_word-take (word_len text) text h ∙ word_len-first text h
-
-or_cases : (a b : Bool) → a || b ≡ true → (a ≡ true) ⊎ (b ≡ true)
-or_cases true b h = inl refl
-or_cases false b h = inr h
 
 open_len : (rest : List ℕ) → lead_len (123 ∷ rest) ≡ 1
 open_len rest = rw no_words.0 refl
@@ -112,10 +105,6 @@ symbol_len-sound (b ∷ bs) h = grind (arith, common_steps, nat_tests)
 
 and_both : {a b : Bool} → a ≡ true → b ≡ true → a && b ≡ true
 and_both {a} {b} p q = rw (p, q) refl
-
-and_parts : (a b : Bool) → a && b ≡ true → (a ≡ true) × (b ≡ true)
-and_parts true b h = (refl, h)
-and_parts false b h = absurd (cc)
 
 nonempty : (text : List ℕ) → starts_word text ≡ true → 0 < length text
 nonempty [] h = absurd (cc)

@@ -2,20 +2,13 @@
 use Rattle.std.proofs.Common.{refl, sym, ap, ◌∙◌, subst, ◌≡◌, ◌≢◌, ◌⊎◌, inl, inr, ℕ, Bool, true, false, ◌&&◌, ◌||◌, ◌==◌, List, [], ◌∷◌, ◌++◌, codes, if◌then◌else◌}
 use Rattle.std.specs.List.{list_all}
 use Rattle.std.proofs.lemmas.List.{append_cancel_left}
+use Rattle.std.proofs.lemmas.Bool.{and_parts, or_cases}
 use Rattle.bp_base.proofs.Texts.{same_texts}
 use Rattle.backpack_run.specs.Characters.{is_lower, is_upper, is_digit, is_word_char, is_text}
 use Rattle.backpack_run.specs.Lexical.{skip_blanks, is_symbol}
 use Rattle.backpack_run.specs.Shape.{first_passes}
 use Rattle.backpack_run.specs.ReadBack.{is_flat_char, starts_flat, is_flat_symbol, IsFlatToken, LexesFlat}
 use Rattle.backpack_run.proofs.Runs.{run_front, run_back}
-
-either : (a b : Bool) → a || b ≡ true → (a ≡ true) ⊎ (b ≡ true)
-either true b h = inl refl
-either false b h = inr h
-
-parts : (a b : Bool) → a && b ≡ true → (a ≡ true) × (b ≡ true)
-parts true b h = (refl, h)
-parts false b h = absurd (cc h)
 
 -- the symbol that begins with this character
 abbrev symbol_of : ℕ → List ℕ
@@ -37,11 +30,11 @@ is : (text known : List ℕ) → is_text text known ≡ true → IsSymbol known 
 is text known h s = subst IsSymbol (sym (same_texts text known h)) s
 
 plain_symbol : (text : List ℕ) → is_symbol text ≡ true → IsSymbol text
-plain_symbol text h = elim (either (((((is_text text (codes "{") || is_text text (codes "}")) || is_text text (codes ";")) || is_text text (codes "::")) || is_text text (codes "->"))) (is_text text (codes "=")) h) [
-  | inl h5 ↦ elim (either ((((is_text text (codes "{") || is_text text (codes "}")) || is_text text (codes ";")) || is_text text (codes "::"))) (is_text text (codes "->")) h5) [
-    | inl h4 ↦ elim (either (((is_text text (codes "{") || is_text text (codes "}")) || is_text text (codes ";"))) (is_text text (codes "::")) h4) [
-      | inl h3 ↦ elim (either (is_text text (codes "{") || is_text text (codes "}")) (is_text text (codes ";")) h3) [
-        | inl h2 ↦ elim (either (is_text text (codes "{")) (is_text text (codes "}")) h2) [
+plain_symbol text h = elim (or_cases (((((is_text text (codes "{") || is_text text (codes "}")) || is_text text (codes ";")) || is_text text (codes "::")) || is_text text (codes "->"))) (is_text text (codes "=")) h) [
+  | inl h5 ↦ elim (or_cases ((((is_text text (codes "{") || is_text text (codes "}")) || is_text text (codes ";")) || is_text text (codes "::"))) (is_text text (codes "->")) h5) [
+    | inl h4 ↦ elim (or_cases (((is_text text (codes "{") || is_text text (codes "}")) || is_text text (codes ";"))) (is_text text (codes "::")) h4) [
+      | inl h3 ↦ elim (or_cases (is_text text (codes "{") || is_text text (codes "}")) (is_text text (codes ";")) h3) [
+        | inl h2 ↦ elim (or_cases (is_text text (codes "{")) (is_text text (codes "}")) h2) [
           | inl h1 ↦ is text (codes "{") h1 (record { first = 123; more = []; text_is = refl; known = refl; no_flat = no_flats.7 })
           | inr h1 ↦ is text (codes "}") h1 (record { first = 125; more = []; text_is = refl; known = refl; no_flat = no_flats.8 })
         ]
@@ -55,9 +48,9 @@ plain_symbol text h = elim (either (((((is_text text (codes "{") || is_text text
 ]
 
 flat_symbol : (text : List ℕ) → is_flat_symbol text ≡ true → IsSymbol text
-flat_symbol text h = elim (either ((is_symbol text || is_text text (codes "(")) || is_text text (codes ")")) (is_text text (codes ",")) h) [
-  | inl h2 ↦ elim (either (is_symbol text || is_text text (codes "(")) (is_text text (codes ")")) h2) [
-    | inl h1 ↦ elim (either (is_symbol text) (is_text text (codes "(")) h1) [
+flat_symbol text h = elim (or_cases ((is_symbol text || is_text text (codes "(")) || is_text text (codes ")")) (is_text text (codes ",")) h) [
+  | inl h2 ↦ elim (or_cases (is_symbol text || is_text text (codes "(")) (is_text text (codes ")")) h2) [
+    | inl h1 ↦ elim (or_cases (is_symbol text) (is_text text (codes "(")) h1) [
       | inl h0 ↦ plain_symbol text h0
       | inr h0 ↦ is text (codes "(") h0 (record { first = 40; more = []; text_is = refl; known = refl; no_flat = no_flats.0 })
     ]
@@ -76,8 +69,8 @@ one_symbol a b c d p q e = p ∙ (ap symbol_of e ∙ sym q)
 -- one token stands at the front
 one_token : (text rest other more : List ℕ) → text ++ rest ≡ other ++ more → IsFlatToken text rest → IsFlatToken other more → (text ≡ other) × (rest ≡ more)
 one_token text rest other more e (inl w) (inl v) =
-    let a = (parts (starts_flat text) (list_all is_flat_char text) w.0).1 in
-    let b = (parts (starts_flat other) (list_all is_flat_char other) v.0).1 in
+    let a = (and_parts (starts_flat text) (list_all is_flat_char text) w.0).1 in
+    let b = (and_parts (starts_flat other) (list_all is_flat_char other) v.0).1 in
     let s = starts_same rest w.1 in
     let t = starts_same more v.1 in (
       sym (run_front is_flat_char (text ++ rest) text rest refl a s) ∙ run_front is_flat_char (text ++ rest) other more e b t,
@@ -86,13 +79,13 @@ one_token text rest other more e (inl w) (inl v) =
 one_token [] rest other more e (inl w) (inr v) = absurd (cc w.0)
 one_token (b ∷ bs) rest other more e (inl w) (inr v) =
     let s = flat_symbol other v in
-    let f = (parts (is_flat_char b) (list_all is_flat_char (b ∷ bs)) w.0).0 in
+    let f = (and_parts (is_flat_char b) (list_all is_flat_char (b ∷ bs)) w.0).0 in
     let g : b ≡ s.first = cc (e, ap (λ (t : List ℕ). t ++ more) s.text_is) in
     absurd (cc (ap is_flat_char g, f, s.no_flat))
 one_token text rest [] more e (inr w) (inl v) = absurd (cc v.0)
 one_token text rest (b ∷ bs) more e (inr w) (inl v) =
     let s = flat_symbol text w in
-    let f = (parts (is_flat_char b) (list_all is_flat_char (b ∷ bs)) v.0).0 in
+    let f = (and_parts (is_flat_char b) (list_all is_flat_char (b ∷ bs)) v.0).0 in
     let g : b ≡ s.first = cc (e, ap (λ (t : List ℕ). t ++ rest) s.text_is) in
     absurd (cc (ap is_flat_char g, f, s.no_flat))
 one_token text rest other more e (inr w) (inr v) =

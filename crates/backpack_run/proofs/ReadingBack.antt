@@ -5,6 +5,7 @@ use Rattle.std.proofs.lemmas.List.Sorted.{list_any-IsPermutation}
 use Rattle.std.specs.Fmt.{decimal}
 use Rattle.std.proofs.lemmas.Fmt.{decimal_by_steps}
 use Rattle.std.proofs.lemmas.Bool.Decides.{nat_tests}
+use Rattle.std.proofs.lemmas.Bool.{and_parts, eqb-true}
 use Rattle.bp_base.specs.Lists.{AreDistinct}
 use Rattle.bp_base.proofs.Texts.{same_texts}
 use Rattle.backpack_run.specs.Characters.{is_lower, is_upper, is_digit, is_word_char, is_blank, is_text, is_module_name, is_variable_name}
@@ -29,22 +30,15 @@ or_right : (a : Bool) → a || true ≡ true
 or_right true = refl
 or_right false = refl
 
-both : (a b : Bool) → a && b ≡ true → (a ≡ true) × (b ≡ true)
-both true b h = (refl, h)
-both false b h = absurd (cc h)
-
 and_both : {a b : Bool} → a ≡ true → b ≡ true → a && b ≡ true
 and_both {a} {b} p q = rw (p, q) refl
-
-same_number : (x y : ℕ) → (x == y) ≡ true → x ≡ y
-same_number x y e = grind (arith, nat_tests)
 
 equal_number : (x : ℕ) → (x == x) ≡ true
 equal_number x = grind (arith, nat_tests)
 
 all_append : {X : Type 0} (p : X → Bool) (xs ys : List X) → list_all p xs ≡ true → list_all p ys ≡ true → list_all p (xs ++ ys) ≡ true
 all_append p [] ys h k = k
-all_append p (x ∷ xs) ys h k = let t = both (p x) (list_all p xs) h in and_both t.0 (all_append p xs ys t.1 k)
+all_append p (x ∷ xs) ys h k = let t = and_parts (p x) (list_all p xs) h in and_both t.0 (all_append p xs ys t.1 k)
 
 -- characters
 lower_flat : (b : ℕ) → is_lower b ≡ true → is_flat_char b ≡ true
@@ -61,7 +55,7 @@ digit_flat b h = rw h (ap (λ (t : Bool). t || (b == 46)) (or_right (is_lower b 
 
 digits_flat : (ds : List ℕ) → list_all is_digit ds ≡ true → list_all is_flat_char ds ≡ true
 digits_flat [] h = refl
-digits_flat (d ∷ ds) h = let t = both (is_digit d) (list_all is_digit ds) h in and_both (digit_flat d t.0) (digits_flat ds t.1)
+digits_flat (d ∷ ds) h = let t = and_parts (is_digit d) (list_all is_digit ds) h in and_both (digit_flat d t.0) (digits_flat ds t.1)
 
 blank_no_flat : (is_flat_char 32 ≡ false) × (is_flat_char 10 ≡ false)
 unfolding is_flat_char is_word_char is_lower is_upper is_digit
@@ -84,11 +78,11 @@ unfolding is_blank
 flat_no_blank b h = first (b == 32) refl
   where
     second : (t : Bool) → (b == 10) ≡ t → t ≡ false
-    second true e = let s : b ≡ 10 = same_number b 10 e in absurd (cc (ap is_flat_char s, h, blank_no_flat.1))
+    second true e = let s : b ≡ 10 = eqb-true b 10 e in absurd (cc (ap is_flat_char s, h, blank_no_flat.1))
     second false e = refl
 
     first : (t : Bool) → (b == 32) ≡ t → t || (b == 10) ≡ false
-    first true e = let s : b ≡ 32 = same_number b 32 e in absurd (cc (ap is_flat_char s, h, blank_no_flat.0))
+    first true e = let s : b ≡ 32 = eqb-true b 32 e in absurd (cc (ap is_flat_char s, h, blank_no_flat.0))
     first false e = second (b == 10) refl
 
 -- words of the flat text
@@ -98,18 +92,18 @@ IsFlatWord word = starts_flat word && list_all is_flat_char word ≡ true
 name_word : (word : List ℕ) → is_variable_name word ≡ true → IsFlatWord word
 name_word [] h = absurd (cc h)
 name_word (b ∷ bs) h =
-    let t = both (is_lower b) (list_all is_digit bs) h in
+    let t = and_parts (is_lower b) (list_all is_digit bs) h in
     let f = lower_flat b t.0 in and_both f (and_both f (digits_flat bs t.1))
 
 digits_word : (ds : List ℕ) → ds ≢ [] → list_all is_digit ds ≡ true → IsFlatWord ds
 digits_word [] n h = absurd (n refl)
 digits_word (d ∷ ds) n h =
-    let t = both (is_digit d) (list_all is_digit ds) h in
+    let t = and_parts (is_digit d) (list_all is_digit ds) h in
     let f = digit_flat d t.0 in and_both f (and_both f (digits_flat ds t.1))
 
 module_flat : (at : List ℕ) → is_module_name at ≡ true → list_all is_flat_char at ≡ true
 module_flat [] h = refl
-module_flat (b ∷ bs) h = let t = both (is_upper b) (list_all is_digit bs) h in and_both (upper_flat b t.0) (digits_flat bs t.1)
+module_flat (b ∷ bs) h = let t = and_parts (is_upper b) (list_all is_digit bs) h in and_both (upper_flat b t.0) (digits_flat bs t.1)
 
 unit_flat : list_all is_flat_char (codes "U0.") ≡ true
 unfolding is_flat_char is_word_char is_lower is_upper is_digit
@@ -131,7 +125,7 @@ unit_word : (at : List ℕ) → is_module_name at ≡ true → IsFlatWord (codes
 unit_word at h = and_both u_flat (all_append is_flat_char (codes "U0.") at unit_flat (module_flat at h))
 
 name_flat : (occ : List ℕ) → is_variable_name occ ≡ true → list_all is_flat_char occ ≡ true
-name_flat occ h = (both (starts_flat occ) (list_all is_flat_char occ) (name_word occ h)).1
+name_flat occ h = (and_parts (starts_flat occ) (list_all is_flat_char occ) (name_word occ h)).1
 
 flat_name_word : (at occ : List ℕ) → is_module_name at ≡ true → is_variable_name occ ≡ true → IsFlatWord (flat_name at occ)
 flat_name_word at occ h k =
@@ -153,7 +147,7 @@ line rest ts h = rw blanks.1 h
 word : (w rest : List ℕ) (ts : Tokens) → IsFlatWord w → starts_flat rest ≡ false → Lexed rest ts → Lexed (w ++ rest) (w ∷ ts)
 word [] rest ts h s k = absurd (cc h)
 word (b ∷ bs) rest ts h s k =
-    let t = both (is_flat_char b) (list_all is_flat_char (b ∷ bs)) h in
+    let t = and_parts (is_flat_char b) (list_all is_flat_char (b ∷ bs)) h in
     rw (flat_no_blank b t.0) (rest, refl, inl (h, s), k)
 
 symbol : (b : ℕ) (bs rest : List ℕ) (ts : Tokens) → is_blank b ≡ false → is_flat_symbol (b ∷ bs) ≡ true → Lexed rest ts → Lexed ((b ∷ bs) ++ rest) ((b ∷ bs) ∷ ts)
@@ -261,7 +255,7 @@ same_map (x ∷ xs) = ap (λ t. x ∷ t) (same_map xs)
 
 names_words : (names : Tokens) → list_all is_variable_name names ≡ true → AllWords names
 names_words [] h = tt
-names_words (w ∷ ws) h = let t = both (is_variable_name w) (list_all is_variable_name ws) h in (name_word w t.0, names_words ws t.1)
+names_words (w ∷ ws) h = let t = and_parts (is_variable_name w) (list_all is_variable_name ws) h in (name_word w t.0, names_words ws t.1)
 
 args_piece : (args : Tokens) → list_all is_variable_name args ≡ true → Open (args_text args) args
 args_piece args h =
@@ -369,7 +363,7 @@ digit_no_lower d h = grind (arith, nat_tests)
 
 digits_no_name : (ds : List ℕ) → list_all is_digit ds ≡ true → is_variable_name ds ≡ false
 digits_no_name [] h = refl
-digits_no_name (d ∷ ds) h = let t = both (is_digit d) (list_all is_digit ds) h in rw (digit_no_lower d t.0) refl
+digits_no_name (d ∷ ds) h = let t = and_parts (is_digit d) (list_all is_digit ds) h in rw (digit_no_lower d t.0) refl
 
 -- tokens of the flat text as a source writes them
 capitals : (is_lower 80 ≡ false) × (is_lower 85 ≡ false) × (is_digit 80 ≡ false) × (is_digit 85 ≡ false)
@@ -380,7 +374,7 @@ other_token : (at : List ℕ) (b : ℕ) (bs : List ℕ) → b ≢ 80 → b ≢ 8
 other_token at b bs m n = first (is_text (b ∷ bs) (codes "Prelude.Int")) refl
   where
     second : (t : Bool) → (85 == b) ≡ t → unwrap_or (if t then after_front (codes "0." ++ at ++ codes ".") bs else None) (b ∷ bs) ≡ b ∷ bs
-    second true e = absurd (n (sym (same_number 85 b e)))
+    second true e = absurd (n (sym (eqb-true 85 b e)))
     second false e = refl
 
     first : (t : Bool) → is_text (b ∷ bs) (codes "Prelude.Int") ≡ t
@@ -391,13 +385,13 @@ other_token at b bs m n = first (is_text (b ∷ bs) (codes "Prelude.Int")) refl
 name_token : (at word : List ℕ) → is_variable_name word ≡ true → plain_token at word ≡ word
 name_token at [] h = absurd (cc h)
 name_token at (b ∷ bs) h =
-    let t = both (is_lower b) (list_all is_digit bs) h in
+    let t = and_parts (is_lower b) (list_all is_digit bs) h in
     other_token at b bs (λ e. cc (ap is_lower e, t.0, capitals.0)) (λ e. cc (ap is_lower e, t.0, capitals.1))
 
 digits_token : (at ds : List ℕ) → ds ≢ [] → list_all is_digit ds ≡ true → plain_token at ds ≡ ds
 digits_token at [] n h = absurd (n refl)
 digits_token at (b ∷ bs) n h =
-    let t = both (is_digit b) (list_all is_digit bs) h in
+    let t = and_parts (is_digit b) (list_all is_digit bs) h in
     other_token at b bs (λ e. cc (ap is_digit e, t.0, capitals.2)) (λ e. cc (ap is_digit e, t.0, capitals.3))
 
 front_there : (front text : List ℕ) → after_front front (front ++ text) ≡ Some text
@@ -463,7 +457,7 @@ map_both f (x ∷ xs) ys = ap (λ t. f x ∷ t) (map_both f xs ys)
 names_tokens : (at : List ℕ) (names : Tokens) → list_all is_variable_name names ≡ true → map (plain_token at) names ≡ names
 names_tokens at [] h = refl
 names_tokens at (w ∷ ws) h =
-    let t = both (is_variable_name w) (list_all is_variable_name ws) h in
+    let t = and_parts (is_variable_name w) (list_all is_variable_name ws) h in
     let a = name_token at w t.0 in let b = names_tokens at ws t.1 in λ i. a i ∷ b i
 
 arrows_plain : (at : List ℕ) (n : ℕ) (rest : Tokens) → map (plain_token at) (flat_arrows n) ++ rest ≡ arrows_then n rest
@@ -582,14 +576,14 @@ more_begin at (n ∷ names) rest s = symbols_no_flat.2
 more_piece : (at : List ℕ) (names : Tokens) → is_module_name at ≡ true → list_all is_variable_name names ≡ true → Open (more_names at names) (more_tokens at names)
 more_piece at [] m h = λ rest ts s k. k
 more_piece at (n ∷ names) m h =
-    let t = both (is_variable_name n) (list_all is_variable_name names) h in
+    let t = and_parts (is_variable_name n) (list_all is_variable_name names) h in
     open_open (codes ", " ++ flat_name at n) (more_names at names) (codes "," ∷ flat_name at n ∷ []) (more_tokens at names) (export_piece at n m t.0)
     (more_piece at names m t.1) (more_begin at names)
 
 exports_piece : (at : List ℕ) (names : Tokens) → is_module_name at ≡ true → list_all is_variable_name names ≡ true → Open (name_list at names) (export_tokens at names)
 exports_piece at [] m h = λ rest ts s k. k
 exports_piece at (n ∷ names) m h =
-    let t = both (is_variable_name n) (list_all is_variable_name names) h in
+    let t = and_parts (is_variable_name n) (list_all is_variable_name names) h in
     open_open (flat_name at n) (more_names at names) (flat_name at n ∷ []) (more_tokens at names) (word_piece (flat_name at n) (flat_name_word at n m t.0))
     (more_piece at names m t.1) (more_begin at names)
 

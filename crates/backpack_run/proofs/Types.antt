@@ -4,6 +4,7 @@ use Rattle.std.specs.List.{list_all}
 use Rattle.std.specs.Option.{option_map}
 use Rattle.std.proofs.lemmas.Bool.Decides.{nat_tests}
 use Rattle.std.proofs.lemmas.List.{take-append-drop, take_more, drop_more, length-take-le}
+use Rattle.std.proofs.lemmas.Bool.{and_parts, eqb-true, leb-true, le-leb, eq-eqb}
 use Rattle.backpack_run.specs.Characters.{is_text}
 use Rattle.bp_base.specs.Lists.{is_among}
 use Rattle.backpack_run.specs.Typing.{Plain, integer, function, Entry, type_in, declared_type, entries_of, AtomHas, Applies, AtomsHave, ClauseHas, IsTyped, AreTyped, IsFirstIll}
@@ -147,22 +148,6 @@ clause-back globals locals (arg ∷ args) atoms n m e h =
       clause-back globals (an_int arg ∷ locals) args atoms (length args + m) m refl h,
     )
 
-both : (a b : Bool) → a && b ≡ true → (a ≡ true) × (b ≡ true)
-both true b h = (refl, h)
-both false b h = absurd (cc h)
-
-counts : (x y : ℕ) → x ≡ y → (x == y) ≡ true
-counts x y e = grind (arith, nat_tests)
-
-counted : (x y : ℕ) → (x == y) ≡ true → x ≡ y
-counted x y e = grind (arith, nat_tests)
-
-within : (x y : ℕ) → x ≤ y → nat_le x y ≡ true
-within x y e = grind (arith, nat_tests)
-
-is_within : (x y : ℕ) → nat_le x y ≡ true → x ≤ y
-is_within x y e = grind (arith, nat_tests)
-
 pub typed_fits : (bs : List Binding) (b : Binding) → IsTyped (entries_of bs) b → fits bs b ≡ true
 typed_fits bs b h = start (clause-into (entries_of bs) [] b.args b.atoms b.arrows h)
   where
@@ -171,7 +156,7 @@ typed_fits bs b h = start (clause-into (entries_of bs) [] b.args b.atoms b.arrow
     head atoms None t m n e r = absurd (cc e)
     head atoms (Some k) t m n e r =
         let q = applies-into bs b.args atoms k m (subst (λ (w : Plain). Applies (entries_of bs) (pushed [] b.args) w atoms (declared_type m)) (sym (cc e)) r) in
-        rw q.0 (counts (k + length b.args) (length atoms + b.arrows) (omega (arith, q.1, n)))
+        rw q.0 (eq-eqb (k + length b.args) (length atoms + b.arrows) (omega (arith, q.1, n)))
 
     right : (atoms : List Atom) (m : ℕ) → b.arrows ≡ length b.args + m → AtomsHave (entries_of bs) (pushed [] b.args) atoms (declared_type m)
         → atoms_fit bs b atoms ≡ true
@@ -179,17 +164,17 @@ typed_fits bs b h = start (clause-into (entries_of bs) [] b.args b.atoms b.arrow
     right (a ∷ atoms) m n (t, e, r) = head atoms (atom_arrows bs b.args a) t m n (atom_has bs b.args a t e) r
 
     start : Opened (entries_of bs) [] b.args b.atoms b.arrows → fits bs b ≡ true
-    start o = rw (within (length b.args) b.arrows (omega (arith, o.arrows_are))) (right b.atoms o.left o.arrows_are o.right)
+    start o = rw (le-leb (length b.args) b.arrows (omega (arith, o.arrows_are))) (right b.atoms o.left o.arrows_are o.right)
 
 pub fits_typed : (bs : List Binding) (b : Binding) → fits bs b ≡ true → IsTyped (entries_of bs) b
-fits_typed bs b h = start (both (nat_le (length b.args) b.arrows) (atoms_fit bs b b.atoms) h)
+fits_typed bs b h = start (and_parts (nat_le (length b.args) b.arrows) (atoms_fit bs b b.atoms) h)
   where
     head : (a : Atom) (atoms : List Atom) (o : Option ℕ) (m : ℕ) → b.arrows ≡ length b.args + m → atom_arrows bs b.args a ≡ o → head_fits bs b atoms o ≡ true
         → AtomsHave (entries_of bs) (pushed [] b.args) (a ∷ atoms) (declared_type m)
     head a atoms None m n e h = absurd (cc h)
     head a atoms (Some k) m n e h =
-        let p = both (list_all (is_integer bs b.args) atoms) (k + length b.args == length atoms + b.arrows) h in
-        let q : k ≡ length atoms + m = omega (arith, counted (k + length b.args) (length atoms + b.arrows) p.1, n) in
+        let p = and_parts (list_all (is_integer bs b.args) atoms) (k + length b.args == length atoms + b.arrows) h in
+        let q : k ≡ length atoms + m = omega (arith, eqb-true (k + length b.args) (length atoms + b.arrows) p.1, n) in
         (declared_type k, has_atom bs b.args a (declared_type k) (ap (option_map declared_type) e), applies-back bs b.args atoms k m q p.0)
 
     right : (atoms : List Atom) (m : ℕ) → b.arrows ≡ length b.args + m → atoms_fit bs b atoms ≡ true
@@ -199,7 +184,7 @@ fits_typed bs b h = start (both (nat_le (length b.args) b.arrows) (atoms_fit bs 
 
     start : (nat_le (length b.args) b.arrows ≡ true) × (atoms_fit bs b b.atoms ≡ true) → IsTyped (entries_of bs) b
     start p =
-        let l = is_within (length b.args) b.arrows p.0 in
+        let l = leb-true (length b.args) b.arrows p.0 in
         let e : b.arrows ≡ length b.args + (b.arrows - length b.args) = omega (arith, l) in
         clause-back (entries_of bs) [] b.args b.atoms b.arrows (b.arrows - length b.args) e (right b.atoms (b.arrows - length b.args) e p.1)
 

@@ -9,10 +9,6 @@ sooner_assoc (Some n) None c = refl
 sooner_assoc (Some n) (Some m) None = refl
 sooner_assoc (Some n) (Some m) (Some k) = ap Some (omega arith)
 
-pub sooner_none : (a : Option ℕ) → sooner a None ≡ a
-sooner_none None = refl
-sooner_none (Some n) = refl
-
 pub least_append : (xs ys : List ℕ) → least_of (xs ++ ys) ≡ sooner (least_of xs) (least_of ys)
 least_append [] ys = refl
 least_append (n ∷ ns) ys = ap (sooner (Some n)) (least_append ns ys) ∙ sym (sooner_assoc (Some n) (least_of ns) (least_of ys))

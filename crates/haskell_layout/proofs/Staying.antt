@@ -1,5 +1,6 @@
 -- Where no block is due, no implicit block is open, and nothing is made.
 use Rattle.std.proofs.Common.{◌≡◌, ℕ, ◌+◌, Bool, true, false, not, ◌&&◌, ◌==◌, List, [], ◌∷◌, ◌++◌, Option, Some, None, Ok, Err, if◌then◌else◌, refl, sym, ap, subst, ◌∙◌}
+use Rattle.std.proofs.lemmas.Bool.{and_parts}
 use Rattle.hs_tokens.specs.declared.token.Token.{Token}
 use Rattle.haskell_layout.specs.declared.role.Role.{Role}
 use Rattle.haskell_layout.specs.declared.role.Role.TheVariants as r
@@ -187,11 +188,6 @@ not_due true true is = refl
 not_due true false is = absurd (cc)
 not_due false brace is = refl
 
-both : (a b : Bool) → (a && b) ≡ true → (a ≡ true) × (b ≡ true)
-both true true is = (refl, refl)
-both true false is = absurd (cc)
-both false b is = absurd (cc)
-
 goes_still : (state : State) (token : Token) → (if state.due then is_open_brace (role_of token) else true) ≡ true → IsPlain state.stack →
     GoesStill (token_moves state token)
 goes_still state token is plain =
@@ -227,7 +223,7 @@ from_stays source_length [] index state answer none plain e =
     ended_stays source_length index state.due (finds s.Explicit state.stack) (closed u.Bottom state.stack).made answer none
     (closed_still u.Bottom state.stack plain).made e
 from_stays source_length (token ∷ tokens) index state answer none plain e =
-    let parts = both (if state.due then is_open_brace (role_of token) else true) (none_due (makes_due (role_of token)) tokens) none in
+    let parts = and_parts (if state.due then is_open_brace (role_of token) else true) (none_due (makes_due (role_of token)) tokens) none in
     gone_stays index token tokens (λ next. layout_from source_length tokens (index + 1) next) (token_moves state token) answer
     (goes_still state token parts.0 plain)
     (λ stack more opened is. from_stays source_length tokens (index + 1) (state_behind (role_of token) stack) more parts.1 opened is) e

@@ -72,9 +72,6 @@ pub record IsListed (es : List Equation) (table : List Ident) (pairs : List Numb
   pub only : (t : Ident) → Among t table → Among t (terms_in es)
   pub ordered : IsIdentTable table
 
-no-idents : IsIdentTable []
-no-idents = record { once = λ i j t e f. cc; below = λ k u m e f a. cc }
-
 pub more-listed : (e : Equation) (es : List Equation) (old new : List Ident) (pairs : List NumberPair) (p : NumberPair)
     → IsListed es old pairs → IsNumbered old e new p → IsListed (e ∷ es) new (pairs ++ p ∷ [])
 more-listed e es old new pairs p l n = record {

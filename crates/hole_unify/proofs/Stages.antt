@@ -106,11 +106,6 @@ least-end table classes i k name last le is so = sym
 
 -- ---- the fills of a unit
 
-fronted-more : (first : List NumberFill) (f : NumberFill) (o : Option (List NumberFill))
-    → numbers_fronted (first ++ f ∷ []) o ≡ numbers_fronted first (with_number f.hole (Some f.ident) o)
-fronted-more first f None = refl
-fronted-more first f (Some fs) = ap Some (append_assoc first (f ∷ []) fs)
-
 -- ---- what a class is
 
 pub hole-found : (table : List Ident) (hole : Option ℕ) (ready : Option Ready) → ready ≡ option_map of.Hole hole

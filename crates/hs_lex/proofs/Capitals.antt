@@ -75,21 +75,6 @@ symbol_never b bs text word n at e is w bad =
     subst (λ s. Never (last_by s b) bs) e
     (whole_never (is_in c.Symbol) is_plain_symbol operator b bs n is (sym (bad ∙ ap is_plain_symbol (w ∙ front_is n text b bs at))))
 
-pub other_never : (start : Start) (b : ℕ) (bs : List ℕ) → (start ≡ s.Small → ⊥) → (start ≡ s.Symbol → ⊥) → start ≡ start_of b → Never (last_by (start_of b) b) bs
-other_never start b bs small symbol e = subst (λ s. Never (last_by s b) bs) e (go start small symbol)
-  where
-    go : (start : Start) → (start ≡ s.Small → ⊥) → (start ≡ s.Symbol → ⊥) → Never (last_by start b) bs
-    go s.Small small symbol = absurd (small refl)
-    go s.Symbol small symbol = absurd (symbol refl)
-    go s.Large small symbol = λ m le. refl
-    go s.Digit small symbol = λ m le. refl
-    go s.White small symbol = λ m le. refl
-    go s.Brace small symbol = λ m le. refl
-    go s.Special small symbol = λ m le. refl
-    go s.Quote small symbol = λ m le. refl
-    go s.DoubleQuote small symbol = λ m le. refl
-    go s.Other small symbol = λ m le. refl
-
 -- what a part is
 part_name : (b : ℕ) (ys r : List ℕ) → is_in c.Name b ≡ true → capital false (b ∷ ys) r ≡ capital false ys r
 part_name b ys r e = ap (λ v. cond v (capital false ys r) (cond (b == 46) (capital true ys r) None)) e
@@ -100,10 +85,6 @@ part_large b ys r e = ap (λ v. cond v (capital false ys r) (last_by (start_of b
 part_small : (b : ℕ) (ys r : List ℕ) → from_to 65 90 b ≡ false → capital true (b ∷ ys) r ≡ last_by (start_of b) b ys r
 part_small b ys r e = ap (λ v. cond v (capital false ys r) (last_by (start_of b) b ys r)) e
 
-pub ends_nil : (bs : List ℕ) → length bs ≡ 0 → Longest (capital false) bs (k.Token t.Con) 0
-ends_nil [] e = end_longest (capital false) (k.Token t.Con) refl
-ends_nil (b ∷ bs) e = absurd (omega arith)
-
 pub ends_other : (bs : List ℕ) (b : ℕ) (tail : List ℕ) → bs ≡ b ∷ tail → begins (is_in c.Name) bs ≡ false → (b ≡ 46 → ⊥) → Longest (capital false) bs (k.Token t.Con) 0
 ends_other bs b tail at plain ne =
     subst (λ l. Longest (capital false) l (k.Token t.Con) 0) (sym at)
@@ -111,12 +92,6 @@ ends_other bs b tail at plain ne =
     (λ ys r. ap (λ v. cond v (capital false ys r) (cond (b == 46) (capital true ys r) None)) (sym (ap (begins (is_in c.Name)) at) ∙ plain)
     ∙ ap (λ v. cond v (capital true ys r) None) (let no : (b == 46) ≡ false = grind (arith, nat_tests) in no))
     refl (λ m le. refl))
-
-pub ends_dot : (bs tail : List ℕ) (b : ℕ) → bs ≡ b ∷ tail → b ≡ 46 → length tail ≡ 0 → Longest (capital false) bs (k.Token t.Con) 0
-ends_dot bs (x ∷ tail) b at is e = absurd (omega arith)
-ends_dot bs [] b at is e =
-    subst (λ l. Longest (capital false) l (k.Token t.Con) 0) (sym (at ∙ ap (λ v. v ∷ []) is))
-    (here_longest (capital false) (capital true) 46 [] (k.Token t.Con) (λ ys r. refl) refl (never_end (capital true) refl))
 
 dotted : (bs tail : List ℕ) (b : ℕ) (kind : Kind) (n : ℕ) → bs ≡ b ∷ tail → b ≡ 46 → Longest (capital true) tail kind n → Longest (capital false) bs kind (suc n)
 dotted bs tail b kind n at is l =

@@ -42,12 +42,6 @@ level_stays (suc n) len o b c rest tail bs lt p q at and e =
     ∙ ap (λ v. more_by len (cond v (more_by 2 (nested_len n bs)) (more_by 1 (nested_len (suc n) (c ∷ bs))))) q
     ∙ more_twice len 1 (nested_len (suc n) (c ∷ bs)) ∙ ap (λ l. more_by (len + 1) (nested_len (suc n) l)) (sym and)
 
-pub level_short : (n len : ℕ) (o : Option ℕ) (bs : List ℕ) → 0 < n → length bs < 2 → o ≡ more_by len (nested_len n bs) → o ≡ None
-level_short zero len o bs lt short e = absurd (omega arith)
-level_short (suc n) len o [] lt short e = e
-level_short (suc n) len o (b ∷ []) lt short e = e
-level_short (suc n) len o (b ∷ c ∷ bs) lt short e = absurd (omega arith)
-
 pub more_none : (o : Option ℕ) → more_by 0 o ≡ o
 more_none None = refl
 more_none (Some n) = ap Some (zero-add n)
@@ -71,9 +65,6 @@ item_more b left bs left' len n o at ne is le behind e =
     e ∙ ap (λ l. more_by len (string_len 0 l)) at ∙ ap (more_by len) (at_item b bs (Some n) ne (sym is) ∙ ap (more_by 1) (skip n bs le) ∙ more_twice 1 n (string_len 0 (drop n bs)))
     ∙ more_twice len (1 + n) (string_len 0 (drop n bs)) ∙ ap (λ m. more_by m (string_len 0 (drop n bs))) (let h : len + (1 + n) ≡ len + (n + 1) = omega arith in h)
     ∙ ap (λ l. more_by (len + (n + 1)) (string_len 0 l)) (sym behind)
-
-pub item_none : (b : ℕ) (left bs : List ℕ) (len : ℕ) (o : Option ℕ) → left ≡ b ∷ bs → (b ≡ 34 → ⊥) → None ≡ item_len b bs → o ≡ more_by len (string_len 0 left) → None ≡ o
-item_none b left bs len o at ne is e = sym (e ∙ ap (λ l. more_by len (string_len 0 l)) at ∙ ap (more_by len) (at_item b bs None ne (sym is)))
 
 pub is_checked : (w : List ℕ) (kind : Kind) → IsUtf8 w → kind ≡ checked w kind
 is_checked w kind u = sym (ap (λ v. cond v kind k.Broken) (is_utf8-from_IsUtf8 w u))

@@ -31,14 +31,6 @@ run_found class form (b ∷ bs) lt = go (class b) refl
         le : (bs : List ℕ) → prefix_len class bs ≤ length bs
         le bs = prefix_le class bs
 
-pub run_never : (class : ℕ → Bool) (form : Form) (bs : List ℕ) → prefix_len class bs ≡ 0 → Never (alone (run_as class form)) bs
-run_never class form [] e = never_end (alone (run_as class form)) refl
-run_never class form (b ∷ bs) e = λ m le. go m le
-  where
-    go : (m : ℕ) → m ≤ length (b ∷ bs) → only (is_run class (take m (b ∷ bs))) form ≡ None
-    go zero le = refl
-    go (suc m) le = ap (λ v. only v form) (all_past class (b ∷ bs) (suc m) le (omega arith))
-
 -- nothing else is spelled
 pub same_longest : {A : Type 0} (g g' : Spelling A) (bs : List ℕ) (x : A) (n : ℕ) → ((m : ℕ) → g (take m bs) (drop m bs) ≡ g' (take m bs) (drop m bs)) → Longest g' bs x n → Longest g bs x n
 same_longest g g' bs x n by l = record {
@@ -55,11 +47,6 @@ found_behind g g' b tail bs x n at by l =
 pub found_here : (g g' : List ℕ → Option Form) (b : ℕ) (tail bs : List ℕ) (x : Form) → bs ≡ b ∷ tail → ((ys : List ℕ) → g (b ∷ ys) ≡ g' ys) → g [] ≡ Some x →
     Never (alone g') tail → Longest (alone g) bs x 0
 found_here g g' b tail bs x at by e none = subst (λ l. Longest (alone g) l x 0) (sym at) (here_longest (alone g) (alone g') b tail x (λ ys r. by ys) e none)
-
--- a byte that spells nothing more
-pub found_alone : (g : List ℕ → Option Form) (bs : List ℕ) (x : Form) → g [] ≡ Some x → ((b : ℕ) (tail ys : List ℕ) → bs ≡ b ∷ tail → g (b ∷ ys) ≡ None) → Longest (alone g) bs x 0
-found_alone g [] x e by = end_longest (alone g) x e
-found_alone g (b ∷ bs) x e by = here_longest (alone g) (λ ys r. None) b bs x (λ ys r. by b bs ys refl) e (λ m le. refl)
 
 -- the cases of an exponent
 pub exponent_signed : (b : ℕ) (ys : List ℕ) → is_sign b ≡ true → exponent (b ∷ ys) ≡ run_as (is_in c.Digit) f.Floating ys

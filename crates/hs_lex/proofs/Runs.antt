@@ -8,22 +8,6 @@ use Rattle.hs_lex.specs.Classes.{all, begins, is_empty}
 use Rattle.hs_lex.specs.Numbers.{only}
 use Rattle.hs_lex.specs.Longest.{Spelling, Longest, Never}
 
-pub and_false : (a : Bool) → a && false ≡ false
-and_false true = refl
-and_false false = refl
-
-pub not_true : (a : Bool) → not a ≡ true → a ≡ false
-not_true true e = cc
-not_true false e = refl
-
-pub not_false : (a : Bool) → not a ≡ false → a ≡ true
-not_false true e = refl
-not_false false e = cc
-
-pub and_true : (a b : Bool) → a && b ≡ true → (a ≡ true) × (b ≡ true)
-and_true true b e = (refl, e)
-and_true false b e = cc
-
 pub prefix_yes : (f : ℕ → Bool) (b : ℕ) (bs : List ℕ) → f b ≡ true → prefix_len f (b ∷ bs) ≡ suc (prefix_len f bs)
 prefix_yes f b bs e = ap (λ v. cond v (1 + prefix_len f bs) 0) e ∙ omega arith
 

@@ -2,6 +2,7 @@
 use Rattle.std.proofs.Common.{◌≡◌, ℕ, ◌<◌, ◌⊎◌, inl, inr, Bool, true, false, List, [], ◌∷◌, length, take, drop, refl, sym, ap, ◌∙◌, subst, arith, true≢false, Option, Some, None, Result, Ok, Err}
 use Rattle.std.specs.Prelude.{nat_lt}
 use Rattle.std.proofs.lemmas.Bool.Decides.{nat_tests}
+use Rattle.std.proofs.lemmas.Bool.{and_parts}
 use Rattle.hs_tokens.specs.declared.token.Token.{Token}
 use Rattle.hs_lex.specs.declared.kind.Kind.{Kind}
 use Rattle.hs_lex.specs.declared.kind.Kind.TheVariants as k
@@ -10,7 +11,6 @@ use Rattle.hs_lex.specs.declared.reader.LexError.TheVariants as e
 use Rattle.hs_lex.specs.Lexicon.{kind_of}
 use Rattle.hs_lex.specs.Longest.{Spelling, Longest}
 use Rattle.hs_lex.specs.Cover.{Piece, Stands, Cuts, is_sound, are_sound, tokens_of, Covered, Stops, Answers}
-use Rattle.hs_lex.proofs.Runs.{and_true}
 
 none_some : {A : Type 0} (x : A) (o : Option A) → o ≡ None → o ≡ Some x → ⊥
 none_some x o p q = let both : None ≡ Some x = sym p ∙ q in cc
@@ -49,13 +49,13 @@ pub meet : (ps qs : List Piece) (text rest rest' : List ℕ) → Cuts ps text re
     Final rest → Final rest' → (ps ≡ qs) × (rest ≡ rest')
 meet [] [] text rest rest' h g a b f f' = (refl, sym h ∙ g)
 meet [] (q ∷ qs) text rest rest' h g a b f f' =
-    absurd (no_more q rest f (subst (Stands q) h g.0) (and_true (is_sound q.kind) (are_sound qs) b).0)
+    absurd (no_more q rest f (subst (Stands q) h g.0) (and_parts (is_sound q.kind) (are_sound qs) b).0)
 meet (p ∷ ps) [] text rest rest' h g a b f f' =
-    absurd (no_more p rest' f' (subst (Stands p) g h.0) (and_true (is_sound p.kind) (are_sound ps) a).0)
+    absurd (no_more p rest' f' (subst (Stands p) g h.0) (and_parts (is_sound p.kind) (are_sound ps) a).0)
 meet (p ∷ ps) (q ∷ qs) text rest rest' h g a b f f' =
     let same = same_piece p q text h.0 g.0 in
     let inner = meet ps qs (drop q.len text) rest rest' (subst (λ x. Cuts ps (drop x.len text) rest) same h.1) g.1
-    (and_true (is_sound p.kind) (are_sound ps) a).1 (and_true (is_sound q.kind) (are_sound qs) b).1 f f' in
+    (and_parts (is_sound p.kind) (are_sound ps) a).1 (and_parts (is_sound q.kind) (are_sound qs) b).1 f f' in
     (ap (λ x. x ∷ ps) same ∙ ap (λ l. q ∷ l) inner.0, inner.1)
 
 pub one_cover : (text : List ℕ) (ps qs : List Piece) → Cuts ps text [] → Cuts qs text [] → ps ≡ qs

@@ -92,12 +92,6 @@ abbrev row_fills : {m : _} → Row_of-Fill m → List Fill
 row_fills end_of-Fill = []
 row_fills (more_of-Fill h i r) = record { hole = h; ident = i } ∷ row_fills r
 
-row_fills-list : (c : List ℕ) (s : List (Unit {0})) (r : Row_of-Fill (list_count this s none_left))
-    → row_fills r ≡ (out-Unit (Unit' c s r)).fills
-unfolding out-Unit out shown-the_row-Fill-1 shown
-row_fills-list c [] end_of-Fill = refl
-row_fills-list c (x ∷ s) (more_of-Fill h i r) = ap (λ l. record { hole = h; ident = i } ∷ l) (row_fills-list c s r)
-
 -- what reading the text of a row gives
 abbrev RowReads : {m : _} → Row_of-Fill m → Type 0
 RowReads end_of-Fill = Unit {0}
