@@ -1,18 +1,17 @@
 -- From a table to bindings.
 use Rattle.std.proofs.Common.{◌≡◌, ℕ, zero, suc, Option, append-nil, append_assoc, List, [], ◌∷◌, ◌++◌, ◌<◌, ◌+◌, length, take, length-append, refl, sym, ap, ap₂, subst, ◌∙◌, arith}
 use Rattle.std.proofs.Math.Seq.{take-append_seam}
-use Rattle.std.specs.Prelude.{◌↔◌, slice_get}
+use Rattle.std.specs.Prelude.{slice_get}
 use Rattle.std.specs.Option.{option_map}
-use Rattle.type_unify.specs.Types.{Plain, Assignment, Equals, Solves, Bound, ids, resolved}
+use Rattle.type_unify.specs.Types.{Plain, Bound, ids, resolved}
 use Rattle.type_unify.specs.Unified.{IsUnified, NotSolvable}
 use Rattle.type_unify.specs.declared.cell.Cell.{Cell}
 use Rattle.type_unify.specs.Cells.{at, trees, bounds, bounds_after, seen, IsTable}
 use Rattle.type_unify.specs.Outcomes.{Grows, Solved}
-use Rattle.type_unify.specs.Taken.{IsLonger, Extends, TakenIn}
+use Rattle.type_unify.specs.Taken.{IsLonger, TakenIn}
 use Rattle.type_unify.specs.Attempts.{Attempted}
 use Rattle.type_unify.proofs.Solving.{solution, Solves-solution}
 use Rattle.type_unify.proofs.Tables.{IsTable-new, seen_is}
-use Rattle.type_unify.proofs.Taking.{Extends-trans}
 
 pub bounds-new : bounds [] [] ≡ []
 unfolding bounds

@@ -1,17 +1,16 @@
 -- The run of unification: what holds between two bindings, and how it ends.
-use Rattle.std.proofs.Common.{◌≡◌, ℕ, zero, suc, ◌+◌, ◌<◌, ◌≤◌, ◌^◌, Bool, true, false, ◌||◌, List, [], ◌∷◌, ◌++◌, length, Option, Some, None, ◌⊎◌, inl, inr, refl, sym, ap, ap₂, subst, ◌∙◌, arith, append_assoc, append-nil, true≢false, eq-eqb}
-use Rattle.std.specs.Prelude.{nat_eq, if◌then◌else◌}
+use Rattle.std.proofs.Common.{◌≡◌, ℕ, zero, suc, ◌+◌, ◌<◌, ◌≤◌, ◌^◌, Bool, true, false, ◌||◌, List, [], ◌∷◌, ◌++◌, length, Option, Some, None, inl, inr, refl, sym, ap, subst, ◌∙◌, arith, append_assoc, append-nil, true≢false, eq-eqb}
+use Rattle.std.specs.Prelude.{nat_eq}
 use Rattle.std.specs.Map.{lookup}
-use Rattle.bp_base.specs.declared.ty.OrigName.{OrigName}
-use Rattle.type_terms.specs.Terms.{var, app, applied, occurs_in, Every}
-use Rattle.type_unify.specs.Types.{Head, Plain, bare, Assignment, Equals, Solves, Bound, resolved, EveryBound}
+use Rattle.type_terms.specs.Terms.{var, applied, occurs_in, Every}
+use Rattle.type_unify.specs.Types.{Head, bare, Assignment, Equals, Solves, Bound, EveryBound}
 use Rattle.type_unify.specs.declared.cell.Cell.{Cell}
 use Rattle.type_unify.specs.Cells.{at, trees, bounds, seen, hops_in, hops, IsTable}
 use Rattle.type_unify.specs.Steps.{AllEqual, EveryPair, AllWithin, Free, Asks}
-use Rattle.type_unify.specs.Outcomes.{Refuses, Grows, Solved}
+use Rattle.type_unify.specs.Outcomes.{HaveNoSolution, Grows, Solved}
 use Rattle.type_unify.specs.Unified.{NotSolvable}
 use Rattle.type_unify.proofs.Solving.{test_cases, or_of_false, applied-replaced, applied-resolved, Solves-front, Solves-last, Solves-push, occurs_unsolvable, Every-replaced, Every-resolved, EveryBound-push}
-use Rattle.type_unify.proofs.Tables.{Binds, bounds-push, seen-binds, seen_is, IsTable-bind}
+use Rattle.type_unify.proofs.Tables.{Binds, bounds-push, seen-binds, IsTable-bind}
 
 -- ---- how many unknowns are free
 
@@ -188,7 +187,7 @@ Solved-done cs first es stack a b r k = record {
   closed = λ p q h x y. (r.closed p q h x y).0;
 }
 
-pub NotSolvable-refused : (cs : List Cell) (first es stack : List (ℕ × ℕ)) (a b : ℕ) → Reached cs first es stack a b → Refuses (seen cs es) stack → NotSolvable (bounds cs first) (at (trees cs) a) (at (trees cs) b)
+pub NotSolvable-refused : (cs : List Cell) (first es stack : List (ℕ × ℕ)) (a b : ℕ) → Reached cs first es stack a b → HaveNoSolution (seen cs es) stack → NotSolvable (bounds cs first) (at (trees cs) a) (at (trees cs) b)
 NotSolvable-refused cs first es stack a b r n s h e = n s (r.all s h e).1
 
 pub NotSolvable-occurs : (cs : List Cell) (first es stack rest : List (ℕ × ℕ)) (a b x n : ℕ) (o : Bool) → Reached cs first es stack a b → Asks cs es stack rest x n → o ≡ occurs_in x (seen cs es n) → o ≡ true → NotSolvable (bounds cs first) (at (trees cs) a) (at (trees cs) b)

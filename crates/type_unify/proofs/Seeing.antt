@@ -1,18 +1,18 @@
 -- What a node shows of the type of its number.
-use Rattle.std.proofs.Common.{◌≡◌, ℕ, zero, suc, ◌+◌, ◌<◌, ◌≤◌, ◌^◌, Bool, true, false, List, [], ◌∷◌, ◌++◌, length, get_or, Option, Some, None, ◌⊎◌, inl, inr, refl, sym, ap, ap₂, subst, ◌∙◌, arith}
+use Rattle.std.proofs.Common.{◌≡◌, ℕ, ◌<◌, ◌^◌, List, length, get_or, Option, Some, None, inl, inr, sym, ap, subst, ◌∙◌}
 use Rattle.std.specs.Prelude.{nat_eq, IfSome, IfNone}
 use Rattle.std.specs.Map.{lookup}
 use Rattle.type_terms.specs.Terms.{var, con, app}
-use Rattle.type_unify.specs.Types.{Plain, rigid, bare, Same, Assignment, Equals, resolved, Bound, named}
+use Rattle.type_unify.specs.Types.{Plain, rigid, bare, Same, Assignment, Equals, resolved, named}
 use Rattle.type_unify.specs.declared.cell.Cell.{Cell}
 use Rattle.type_unify.specs.declared.cell.Cell.TheVariants.{Flex, Rigid, Con, App}
-use Rattle.type_unify.specs.Cells.{at, trees, bounds, seen, hops, hops_in, NotFlex, Wire, IsTable, IsBoundAt}
+use Rattle.type_unify.specs.Cells.{at, trees, bounds, seen, hops, hops_in, NotFlex, Wire, IsTable}
 use Rattle.type_unify.specs.Steps.{Walked, Nearer, Shown, SameLeaf, Apart, Free}
 use Rattle.type_unify.specs.Differences.{Differs, Tells, PartsOf, BindOf}
 use Rattle.type_unify.specs.declared.compare.Difference.{Difference}
 use Rattle.type_unify.specs.declared.compare.Difference.TheVariants.{Same as Equal, Parts, Bind, Clash}
 use Rattle.type_unify.proofs.Solving.{resolved-app, resolved-rigid, resolved-con}
-use Rattle.type_unify.proofs.Tables.{resolved-free, hops_in-app, hops_in-rigid, hops_in-con, seen_is}
+use Rattle.type_unify.proofs.Tables.{resolved-free, hops_in-app, hops_in-rigid, hops_in-con}
 
 flex_at : (cs : List Cell) (es : List (ℕ × ℕ)) (i x : ℕ) (c : Cell) → IsTable cs es → i < length cs → c ≡ get_or cs i c → c ≡ Flex x → at (trees cs) i ≡ var x
 flex_at cs es i x c h l e f = subst (λ d. Wire (trees cs) (length cs) (at (trees cs) i) d) f (h.wired i c l e)
@@ -100,7 +100,7 @@ BindOf-two cs es a i b j x y c d h p q e f l n =
       ends = inl (shows_flex cs es a i x c h p e, sym q.walked.same);
     }
   where
-    flex_inj : var x ≡ var y → x ≡ y
+    flex_inj : ◌≡◌ {A = Plain} (var x) (var y) → x ≡ y
     flex_inj z = cc
 
 pub BindOf-left : (cs : List Cell) (es : List (ℕ × ℕ)) (a i b j x : ℕ) (c d : Cell) → IsTable cs es → Side cs es a i c → Side cs es b j d → c ≡ Flex x → NotFlex d → x < 2 ^ 64 → BindOf cs es a b x j
@@ -116,7 +116,7 @@ BindOf-right cs es a i b j x c d h p q n e l = record {
 }
 
 leaf_same : (cs : List Cell) (es : List (ℕ × ℕ)) (t u : Plain) (c d : Cell) → Shown cs es t c → Shown cs es u d → SameLeaf c d → Same t u
-leaf_same cs es t u (Rigid i) (Rigid j) p q e = ap bare (p ∙ ap (λ z. con (con (rigid z))) e ∙ sym q)
+leaf_same cs es t u (Rigid i) (Rigid j) p q e = ap bare (p ∙ ap (λ z. con (rigid z)) e ∙ sym q)
 leaf_same cs es t u (Con n k) (Con m l) p q e = ap bare p ∙ ap (λ z. bare (con (named z k))) e ∙ ap bare (sym q)
 leaf_same cs es t u _ _ p q e = absurd e
 

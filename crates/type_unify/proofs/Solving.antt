@@ -1,6 +1,6 @@
 -- Laws of substitutions and of their solutions.
-use Rattle.std.proofs.Common.{◌≡◌, ℕ, zero, suc, ◌+◌, ◌<◌, ◌≤◌, Bool, true, false, eqb, ◌||◌, List, [], ◌∷◌, ◌++◌, ◌⊎◌, inl, inr, refl, sym, ap, ap₂, subst, ◌∙◌, arith, eqb-true, eq-eqb, true≢false}
-use Rattle.std.specs.Prelude.{nat_eq, if◌then◌else◌}
+use Rattle.std.proofs.Common.{◌≡◌, ℕ, ◌+◌, ◌≤◌, Bool, true, false, ◌||◌, List, [], ◌∷◌, ◌++◌, ◌⊎◌, inl, inr, refl, sym, ap, ap₂, ◌∙◌, arith, eqb-true, eq-eqb, true≢false}
+use Rattle.std.specs.Prelude.{nat_eq}
 use Rattle.type_terms.specs.Terms.{var, con, app, applied, occurs_in, replaced, Every}
 use Rattle.type_unify.specs.Types.{Plain, rigid, bare, Same, Equals, Assignment, Bound, Solves, resolved, Absent, IsTriangular, Clear, EveryBound, named}
 use Rattle.type_unify.specs.Steps.{size}

@@ -1,8 +1,8 @@
 -- Laws of types written as nodes.
-use Rattle.std.proofs.Common.{◌≡◌, ℕ, List, [], ◌∷◌, ◌++◌, refl, sym, ap, subst, ◌∙◌}
+use Rattle.std.proofs.Common.{◌≡◌, List, [], ◌∷◌, ◌++◌, sym, ap, subst, ◌∙◌}
 use Rattle.type_terms.specs.Terms.{app}
 use Rattle.type_unify.specs.Types.{Plain}
-use Rattle.type_unify.specs.Written.{read, read_node, joined, joined_back, spelled, AreNodesOf, top, nodes_of}
+use Rattle.type_unify.specs.Written.{read, spelled, AreNodesOf, top, nodes_of}
 use Rattle.type_unify.specs.Codes.{read-append, AreNodesOf-nodes_of}
 use Rattle.type_unify.specs.declared.term.Node.{Node}
 use Rattle.type_unify.specs.declared.term.Node.TheVariants.{App, Swapped}

@@ -1,14 +1,14 @@
 -- Laws of stacks of numbers and of tasks.
-use Rattle.std.proofs.Common.{◌≡◌, ℕ, zero, suc, ◌+◌, ◌-◌, ◌*◌, ◌<◌, ◌≤◌, Bool, true, false, ◌||◌, List, [], ◌∷◌, ◌++◌, take, refl, sym, ap, ap₂, subst, ◌∙◌, arith, append_assoc, append-nil}
+use Rattle.std.proofs.Common.{◌≡◌, ℕ, ◌+◌, ◌-◌, ◌*◌, ◌<◌, Bool, true, false, ◌||◌, List, [], ◌∷◌, ◌++◌, take, refl, sym, ap, ap₂, subst, ◌∙◌, arith, append_assoc, append-nil}
 use Rattle.std.specs.Prelude.{nat_eq, OnOk, IfErr, Result, Ok, Err}
 use Rattle.type_terms.specs.Terms.{var, con, app, occurs_in}
-use Rattle.type_unify.specs.Types.{Plain, rigid, named}
+use Rattle.type_unify.specs.Types.{Plain}
 use Rattle.type_unify.specs.Written.{nodes_of}
 use Rattle.type_unify.specs.Steps.{size}
 use Rattle.type_unify.specs.Stacks.{occurs_among, sizes, Below, Looks, Unseen, written, load, TasksBelow}
 use Rattle.type_unify.specs.Spelled.{Performs}
 use Rattle.type_unify.specs.declared.term.Node.{Node}
-use Rattle.type_unify.specs.declared.term.Node.TheVariants.{Flex, Rigid, Con, App}
+use Rattle.type_unify.specs.declared.term.Node.TheVariants.{App}
 use Rattle.type_unify.specs.declared.spell.Task.{Task}
 use Rattle.type_unify.specs.declared.spell.Task.TheVariants.{Visit, Join}
 

@@ -1,19 +1,19 @@
 -- What a step of unification shows.
-use Rattle.std.proofs.Common.{◌≡◌, ℕ, zero, suc, ◌+◌, ◌<◌, ◌≤◌, Bool, true, false, List, [], ◌∷◌, ◌++◌, length, Option, Some, None, ◌⊎◌, inl, inr, refl, sym, ap, ap₂, subst, ◌∙◌, arith, append_assoc}
-use Rattle.std.specs.Prelude.{◌↔◌}
+use Rattle.std.proofs.Common.{◌≡◌, ℕ, ◌+◌, ◌<◌, Bool, true, List, [], ◌∷◌, ◌++◌, length, Option, Some, None, ◌⊎◌, inl, inr, refl, sym, ap, ap₂, subst, ◌∙◌, arith, append_assoc}
 use Rattle.type_terms.specs.Terms.{var, con, app, applied, Every}
 use Rattle.type_unify.specs.Types.{Plain, rigid, bare, Same, Assignment, Equals, named}
 use Rattle.type_unify.specs.declared.cell.Cell.{Cell}
 use Rattle.type_unify.specs.declared.solve.Wanted.{Wanted}
 use Rattle.type_unify.specs.Cells.{seen}
-use Rattle.type_unify.specs.Steps.{AllEqual, EveryPair, AllWithin, size, weight, Free, Follows, Asks}
-use Rattle.type_unify.specs.Outcomes.{Reduces, Refuses, Step, Advance}
+use Rattle.type_unify.specs.Steps.{AllEqual, EveryPair, AllWithin, size, weight, Follows, Asks}
+use Rattle.type_unify.specs.Outcomes.{Reduces, HaveNoSolution, Step, Advance}
 use Rattle.type_unify.specs.Differences.{PartsOf, BindOf}
 use Rattle.type_unify.proofs.Stacking.{size-positive}
 
 applied-bare : (s : Assignment) (t : Plain) → bare (applied s t) ≡ bare (applied s (bare t))
 applied-bare s (var i) = refl
-applied-bare s (con h) = refl
+applied-bare s (con (rigid i)) = refl
+applied-bare s (con (named n k)) = refl
 applied-bare s (app f a) = ap₂ app (applied-bare s f) (applied-bare s a)
 
 -- types that are equal stay so
@@ -128,8 +128,8 @@ Asks-bind cs es old new a b x n e w =
     every p q (inl e) h k = (subst (Every p q) e.0 h, subst (Every p q) e.1 k)
     every p q (inr e) h k = (subst (Every p q) e.0 k, subst (Every p q) e.1 h)
 
-pub Refuses-clash : (f : ℕ → Plain) (old : List (ℕ × ℕ)) (a b : ℕ) → ((s : Assignment) → Equals s (f a) (f b) → ⊥) → Refuses f (old ++ (a, b) ∷ [])
-Refuses-clash f old a b n s h = n s (AllEqual-front s f old (a, b) h).1
+pub HaveNoSolution-clash : (f : ℕ → Plain) (old : List (ℕ × ℕ)) (a b : ℕ) → ((s : Assignment) → Equals s (f a) (f b) → ⊥) → HaveNoSolution f (old ++ (a, b) ∷ [])
+HaveNoSolution-clash f old a b n s h = n s (AllEqual-front s f old (a, b) h).1
 
 -- ---- many steps
 
@@ -154,8 +154,8 @@ Asks-after cs es first old popped new p x n h e r = record {
   within = λ k. r.within (subst (AllWithin (length cs)) e (h.within k));
 }
 
-pub Refuses-after : (f : ℕ → Plain) (m : ℕ) (first old popped : List (ℕ × ℕ)) (p : ℕ × ℕ) → Follows f m first old → old ≡ popped ++ p ∷ [] → Refuses f (popped ++ p ∷ []) → Refuses f first
-Refuses-after f m first old popped p h e r s k = r s (subst (AllEqual s f) e ((h.same s).0 k))
+pub HaveNoSolution-after : (f : ℕ → Plain) (m : ℕ) (first old popped : List (ℕ × ℕ)) (p : ℕ × ℕ) → Follows f m first old → old ≡ popped ++ p ∷ [] → HaveNoSolution f (popped ++ p ∷ []) → HaveNoSolution f first
+HaveNoSolution-after f m first old popped p h e r s k = r s (subst (AllEqual s f) e ((h.same s).0 k))
 
 pub AllEqual-done : (f : ℕ → Plain) (m : ℕ) (first old : List (ℕ × ℕ)) → Follows f m first old → old ≡ [] → (s : Assignment) → AllEqual s f first
 AllEqual-done f m first old h e s = (h.same s).1 (subst (AllEqual s f) (sym e) tt)

@@ -1,14 +1,13 @@
 -- Laws of types that are brought into a table.
-use Rattle.std.proofs.Common.{◌≡◌, ℕ, zero, suc, ◌+◌, ◌<◌, ◌≤◌, Bool, true, false, List, [], ◌∷◌, ◌++◌, length, get_or, refl, sym, ap, ap₂, subst, ◌∙◌, arith, append_assoc, append-nil, length-append}
+use Rattle.std.proofs.Common.{◌≡◌, ℕ, ◌+◌, ◌<◌, ◌≤◌, Bool, true, false, List, [], ◌∷◌, ◌++◌, length, get_or, refl, sym, ap, ap₂, subst, ◌∙◌, arith, append_assoc, append-nil, length-append}
 use Rattle.std.specs.Prelude.{if◌then◌else◌}
-use Rattle.type_terms.specs.Terms.{var, con, app}
-use Rattle.type_unify.specs.Types.{Plain, rigid, named}
-use Rattle.type_unify.specs.Written.{read, read_node, joined, joined_back, spelled, AreNodesOf}
+use Rattle.type_unify.specs.Types.{Plain}
+use Rattle.type_unify.specs.Written.{read, read_node, spelled, AreNodesOf}
 use Rattle.type_unify.specs.Codes.{read-append}
 use Rattle.type_unify.specs.declared.cell.Cell.{Cell}
-use Rattle.type_unify.specs.declared.cell.Cell.TheVariants.{Flex, Rigid, Con, App}
+use Rattle.type_unify.specs.declared.cell.Cell.TheVariants.{App}
 use Rattle.type_unify.specs.declared.term.Node.{Node}
-use Rattle.type_unify.specs.Cells.{at, made, trees, bounds, IsTable}
+use Rattle.type_unify.specs.Cells.{at, made, trees}
 use Rattle.type_unify.specs.Stacks.{Below, types_of}
 use Rattle.type_unify.specs.Taken.{IsLonger, Extends, Took, TakenIn, joining}
 use Rattle.type_unify.proofs.Tables.{at-push, at-last, bounds-cell, PartsBelow, IsTable-cell}

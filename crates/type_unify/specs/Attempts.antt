@@ -1,5 +1,5 @@
 -- What an attempt to unify two types does to the table and the entries.
-use Rattle.std.specs.Prelude.{◌≡◌, ℕ, List}
+use Rattle.std.specs.Prelude.{ℕ, List}
 use Rattle.type_unify.specs.Types.{Plain}
 use Rattle.type_unify.specs.declared.cell.Cell.{Cell}
 use Rattle.type_unify.specs.Cells.{bounds, IsTable}

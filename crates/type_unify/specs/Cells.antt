@@ -1,5 +1,5 @@
 -- A table of nodes in which the parts of an application stand by their numbers, and the types and bindings that it holds.
-use Rattle.std.specs.Prelude.{◌≡◌, ℕ, suc, ◌<◌, Bool, false, nat_eq, if◌then◌else◌, List, [], ◌∷◌, ◌++◌, length, Option, Some, None}
+use Rattle.std.specs.Prelude.{◌≡◌, ℕ, suc, ◌<◌, Bool, false, nat_eq, if◌then◌else◌, List, [], ◌∷◌, ◌++◌, length, Some, None}
 use Rattle.std.proofs.Common.{get_or}
 use Rattle.std.specs.Map.{lookup}
 use Rattle.type_terms.specs.Terms.{var, con, app}

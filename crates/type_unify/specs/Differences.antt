@@ -1,7 +1,7 @@
 -- What two types ask for.
 use Rattle.std.specs.Prelude.{◌≡◌, ◌⊎◌, ℕ, ◌<◌, List, length}
 use Rattle.type_terms.specs.Terms.{var, app}
-use Rattle.type_unify.specs.Types.{Plain, Same, Assignment, Equals}
+use Rattle.type_unify.specs.Types.{Same, Assignment, Equals}
 use Rattle.type_unify.specs.declared.cell.Cell.{Cell}
 use Rattle.type_unify.specs.declared.cell.Cell.TheVariants.{App}
 use Rattle.type_unify.specs.Cells.{seen}

@@ -1,6 +1,5 @@
 -- What a step, many steps and a whole run of unification do.
-use Rattle.std.specs.Prelude.{◌≡◌, ℕ, ◌<◌, List, [], ◌∷◌, ◌++◌, length, Bool, true, Option, Some, None}
-use Rattle.bp_base.specs.declared.ty.OrigName.{OrigName}
+use Rattle.std.specs.Prelude.{◌≡◌, ℕ, ◌<◌, List, ◌++◌, length, Bool, Option, Some, None}
 use Rattle.type_terms.specs.Terms.{Every}
 use Rattle.type_unify.specs.Types.{Head, Plain, Assignment, Equals, Solves, EveryBound, Bound}
 use Rattle.type_unify.specs.declared.cell.Cell.{Cell}
@@ -9,8 +8,8 @@ use Rattle.type_unify.specs.Cells.{at, trees, bounds, seen, IsTable}
 use Rattle.type_unify.specs.Steps.{AllEqual, Follows, Asks, weight}
 
 -- no assignment makes the types of all pairs equal
-abbrev pub Refuses : (ℕ → Plain) → List (ℕ × ℕ) → Type 0
-Refuses f ps = (s : Assignment) → AllEqual s f ps → ⊥
+abbrev pub HaveNoSolution : (ℕ → Plain) → List (ℕ × ℕ) → Type 0
+HaveNoSolution f ps = (s : Assignment) → AllEqual s f ps → ⊥
 
 -- the pairs that are left have the same solutions, and are smaller
 pub record Reduces (f : ℕ → Plain) (m : ℕ) (old new : List (ℕ × ℕ)) : Type 0 where

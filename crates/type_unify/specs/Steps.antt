@@ -1,11 +1,10 @@
 -- The steps of unification over a table of nodes.
-use Rattle.std.specs.Prelude.{◌≡◌, ◌↔◌, ℕ, ◌+◌, ◌*◌, ◌<◌, ◌≤◌, ◌^◌, Bool, true, false, ◌||◌, List, [], ◌∷◌, ◌++◌, length}
-use Rattle.bp_base.specs.declared.ty.OrigName.{OrigName}
-use Rattle.type_terms.specs.Terms.{var, con, app, occurs_in, Every}
-use Rattle.type_unify.specs.Types.{Head, Plain, rigid, Same, Assignment, Equals, Bound, resolved, Solves, EveryBound, named}
+use Rattle.std.specs.Prelude.{◌≡◌, ◌↔◌, ℕ, ◌+◌, ◌<◌, ◌^◌, Bool, true, List, [], ◌∷◌, length}
+use Rattle.type_terms.specs.Terms.{var, con, app, Every}
+use Rattle.type_unify.specs.Types.{Head, Plain, rigid, Assignment, Equals, named}
 use Rattle.type_unify.specs.declared.cell.Cell.{Cell}
 use Rattle.type_unify.specs.declared.cell.Cell.TheVariants.{Flex, Rigid, Con, App}
-use Rattle.type_unify.specs.Cells.{at, trees, bounds, seen, hops, IsTable}
+use Rattle.type_unify.specs.Cells.{at, trees, seen, hops}
 
 -- the number where a walk over bound unknowns ends
 pub record Walked (cs : List Cell) (es : List (ℕ × ℕ)) (start end : ℕ) : Type 0 where

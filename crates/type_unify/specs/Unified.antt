@@ -1,6 +1,5 @@
 -- What unification promises.
 use Rattle.std.specs.Prelude.{◌≡◌, ◌↔◌, ℕ, Bool, List, ◌++◌}
-use Rattle.bp_base.specs.declared.ty.OrigName.{OrigName}
 use Rattle.type_terms.specs.Terms.{Every}
 use Rattle.type_unify.specs.Types.{Head, Plain, Assignment, Equals, Bound, Solves, IsTriangular, EveryBound}
 

@@ -1,5 +1,5 @@
 -- How a type is written as a list of nodes, the parts of an application before it.
-use Rattle.std.specs.Prelude.{◌≡◌, ℕ, List, [], ◌∷◌, ◌++◌}
+use Rattle.std.specs.Prelude.{◌≡◌, List, [], ◌∷◌, ◌++◌}
 use Rattle.type_terms.specs.Terms.{var, con, app}
 use Rattle.type_unify.specs.Types.{Plain, rigid, named}
 use Rattle.type_unify.specs.declared.term.Node.{Node}

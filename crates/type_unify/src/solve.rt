@@ -3,7 +3,7 @@ ghost use Rattle.std.specs.Prelude.{◌≡◌, ◌<◌, ◌++◌, ◌∷◌, [],
 ghost use Rattle.std.specs.Map.{lookup};
 ghost use Rattle.type_unify.specs.Cells.{at, trees, bounds, seen, IsTable};
 ghost use Rattle.type_unify.specs.Steps.{AllWithin};
-ghost use Rattle.type_unify.specs.Outcomes.{Step, Advance, Refuses, Solved, Grows};
+ghost use Rattle.type_unify.specs.Outcomes.{Step, Advance, HaveNoSolution, Solved, Grows};
 ghost use Rattle.type_unify.specs.Unified.{NotSolvable};
 
 use crate::cell::Cell;
@@ -69,7 +69,7 @@ fn step(
     requires first { one < length cells.now }
     requires second { other < length cells.now }
     ensures ok { IfOk result (λ r. Step cells.now entries.now.entries (stack.old.items ++ (one, other) ∷ []) stack.new.items r) }
-    ensures none { IfErr result (λ e. e ≡ UnifyError.NoUnifier → Refuses (seen cells.now entries.now.entries) (stack.old.items ++ (one, other) ∷ [])) }
+    ensures none { IfErr result (λ e. e ≡ UnifyError.NoUnifier → HaveNoSolution (seen cells.now entries.now.entries) (stack.old.items ++ (one, other) ∷ [])) }
 {
     match compare(cells, entries, one, other) {
         Difference::Same => Ok(None),
@@ -91,7 +91,7 @@ fn advance(
     requires stands { IsTable cells.now entries.now.entries }
     requires within { AllWithin (length cells.now) stack.old.items }
     ensures ok { IfOk result (λ r. Advance cells.now entries.now.entries stack.old.items stack.new.items r) }
-    ensures none { IfErr result (λ e. e ≡ UnifyError.NoUnifier → Refuses (seen cells.now entries.now.entries) stack.old.items) }
+    ensures none { IfErr result (λ e. e ≡ UnifyError.NoUnifier → HaveNoSolution (seen cells.now entries.now.entries) stack.old.items) }
 {
     while let Some((one, other)) = stack.pop() {
         match step(cells, entries, stack, one, other) {

@@ -1,5 +1,4 @@
-use Rattle.std.proofs.Common.{rules}
-use Rattle.type_unify.proofs.Seeing.{Side, same_flexes, BindOf-two, BindOf-left, BindOf-right, Tells-nodes, IfNone-use}
+use Rattle.type_unify.proofs.Seeing.{same_flexes, BindOf-two, BindOf-left, BindOf-right, Tells-nodes, IfNone-use}
 use Rattle.type_unify.proofs.compare.compare.Goals as goal
 
 pub returns-then-id-last : goal.returns-then-id-last

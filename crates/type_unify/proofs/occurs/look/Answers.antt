@@ -2,7 +2,7 @@ use Rattle.std.proofs.Common.{refl, ap, length}
 use Rattle.type_terms.specs.Terms.{occurs_in}
 use Rattle.type_unify.specs.Cells.{seen}
 use Rattle.type_unify.proofs.Seeing.{shows_flex_at, shows_rigid_at, shows_con_at, shows_app_at}
-use Rattle.type_unify.proofs.Stacking.{Looks-flex, Unseen-leaf, Unseen-app}
+use Rattle.type_unify.proofs.Stacking.{Looks-var, Unseen-leaf, Unseen-app}
 use Rattle.type_unify.proofs.occurs.look.Goals as goal
 
 pub returns-in-Flex : goal.returns-in-Flex

@@ -1,5 +1,4 @@
 use Rattle.std.proofs.Common.{subst, length}
-use Rattle.type_terms.specs.Terms.{occurs_in}
 use Rattle.type_unify.specs.Cells.{seen}
 use Rattle.type_unify.specs.Stacks.{Below}
 use Rattle.type_unify.proofs.Stacking.{Below-front, Looks-true, Looks-false, among-seen, among-found, sizes-seen}

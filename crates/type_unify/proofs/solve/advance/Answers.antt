@@ -1,8 +1,7 @@
 use Rattle.std.proofs.Common.{rules, arith, length, ◌≡◌, [], ◌∷◌, ◌++◌}
 use Rattle.std.proofs.lemmas.Grind.{common_steps}
 use Rattle.type_unify.specs.Cells.{seen}
-use Rattle.type_unify.proofs.Stacking.{popped_none}
-use Rattle.type_unify.proofs.Stepping.{Step-none, Step-some, first_within, Follows-step, weight-step, Asks-after, Refuses-after, AllEqual-done}
+use Rattle.type_unify.proofs.Stepping.{Step-none, Step-some, first_within, Follows-step, weight-step, Asks-after, HaveNoSolution-after, AllEqual-done}
 use Rattle.type_unify.proofs.solve.advance.Goals as goal
 
 pub step-requires-clause-first : goal.step-requires-clause-first
@@ -30,7 +29,7 @@ returns-in-Ok-Some-clause-ok c =
 
 pub returns-in-Err-clause-none : goal.returns-in-Err-clause-none
 returns-in-Err-clause-none c =
-    λ e. Refuses-after (seen c.args.cells.now c.args.entries.now.entries) (length c.args.cells.now) c.args.stack.now.items c.loop-one.stack.items c.pop.new.self.items (c.in-Some.one, c.in-Some.other) c.loop-one.invariant c.in-Some.ensures.items (c.in-Err.ensures.none e)
+    λ e. HaveNoSolution-after (seen c.args.cells.now c.args.entries.now.entries) (length c.args.cells.now) c.args.stack.now.items c.loop-one.stack.items c.pop.new.self.items (c.in-Some.one, c.in-Some.other) c.loop-one.invariant c.in-Some.ensures.items (c.in-Err.ensures.none e)
 
 pub returns-clause-ok : goal.returns-clause-ok
 returns-clause-ok c =

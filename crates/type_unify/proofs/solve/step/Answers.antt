@@ -1,6 +1,6 @@
 use Rattle.std.proofs.Common.{refl, length}
 use Rattle.type_unify.specs.Cells.{seen}
-use Rattle.type_unify.proofs.Stepping.{Reduces-same, Reduces-parts, Asks-bind, Refuses-clash}
+use Rattle.type_unify.proofs.Stepping.{Reduces-same, Reduces-parts, Asks-bind, HaveNoSolution-clash}
 use Rattle.type_unify.proofs.solve.step.Goals as goal
 
 pub returns-in-Same-clause-ok : goal.returns-in-Same-clause-ok
@@ -17,4 +17,4 @@ returns-in-Bind-clause-ok c =
 
 pub returns-in-Clash-clause-none : goal.returns-in-Clash-clause-none
 returns-in-Clash-clause-none c =
-    λ _. Refuses-clash (seen c.args.cells.now c.args.entries.now.entries) _ c.args.one c.args.other c.in-Clash.ensures
+    λ _. HaveNoSolution-clash (seen c.args.cells.now c.args.entries.now.entries) _ c.args.one c.args.other c.in-Clash.ensures

@@ -1,10 +1,9 @@
-use Rattle.std.proofs.Common.{ap, ap₂, sym, subst, ◌∙◌, ◌∷◌, List}
+use Rattle.std.proofs.Common.{ap, ap₂, sym, ◌∙◌, ◌∷◌, List}
 use Rattle.type_terms.specs.Terms.{con}
 use Rattle.type_unify.specs.Types.{Plain, named}
 use Rattle.type_unify.specs.Written.{read_node}
-use Rattle.type_unify.specs.Taken.{Took}
 use Rattle.type_unify.specs.declared.cell.Cell.TheVariants.{Flex, Rigid, Con}
-use Rattle.type_unify.proofs.Stacking.{OnOk-then, OnOk-both}
+use Rattle.type_unify.proofs.Stacking.{OnOk-both}
 use Rattle.type_unify.proofs.Taking.{Took-cell}
 use Rattle.type_unify.proofs.take_in.take_node.Goals as goal
 
