@@ -2,10 +2,13 @@
 use Rattle.std.proofs.Common.{◌≡◌, ℕ, suc, ◌+◌, ◌<◌, List, [], ◌∷◌, ◌++◌, length, take, get_or, refl, ap, sym, ◌∙◌, arith, fold}
 use Rattle.std.specs.Prelude.{map, max, min, sum}
 use Rattle.std.proofs.lemmas.List.{map-append}
+use Rattle.std.proofs.lemmas.Simd.{map-map}
 use Rattle.std.proofs.Math.Seq.{take-suc}
 use Rattle.hs_forms.specs.Limits.{deepest}
 use Rattle.hs_modules.specs.declared.measure.Measure.{Measure}
-use Rattle.hs_modules.specs.Measures.{most, capped, nothing, leaf, beside, node, deeper, with_nodes, all_measured}
+use Rattle.hs_modules.specs.Extents.{Extent, size_of, depth_of}
+use Rattle.hs_modules.specs.Extents as e
+use Rattle.hs_modules.specs.Measures.{most, capped, measured, nothing, leaf, beside, node, deeper, with_nodes, all_measured}
 
 min_of_sum : (m a b : ℕ) → min (min a m + min b m) m ≡ min (a + b) m
 min_of_sum m a b = omega arith
@@ -25,26 +28,26 @@ measure_by a d = record { size = a; depth = d }
 same_measure : {a b d e : ℕ} → a ≡ b → d ≡ e → measure_by a d ≡ measure_by b e
 same_measure p q = λ i. measure_by (p i) (q i)
 
-pub capped_same : {a b d e : ℕ} → a ≡ b → d ≡ e → capped a d ≡ capped b e
+capped_same : {a b d e : ℕ} → a ≡ b → d ≡ e → capped a d ≡ capped b e
 capped_same p q = λ i. capped (p i) (q i)
 
-pub nothing_capped : nothing ≡ capped 0 0
+nothing_capped : nothing ≡ capped 0 0
 unfolding nothing capped
 nothing_capped = refl
 
-pub leaf_capped : leaf ≡ capped 1 0
+leaf_capped : leaf ≡ capped 1 0
 unfolding leaf capped
 leaf_capped = refl
 
-pub beside_capped : (a d b e : ℕ) → beside (capped a d) (capped b e) ≡ capped (a + b) (max d e)
+beside_capped : (a d b e : ℕ) → beside (capped a d) (capped b e) ≡ capped (a + b) (max d e)
 unfolding beside capped
 beside_capped a d b e = same_measure (min_of_sum most a b) (max_of_min most d e)
 
-pub node_capped : (a d : ℕ) → node (capped a d) ≡ capped (1 + a) d
+node_capped : (a d : ℕ) → node (capped a d) ≡ capped (1 + a) d
 unfolding node capped
 node_capped a d = same_measure (min_of_more most a 1) refl
 
-pub deeper_capped : (n a d : ℕ) → deeper n (capped a d) ≡ capped a (d + n)
+deeper_capped : (n a d : ℕ) → deeper n (capped a d) ≡ capped a (d + n)
 unfolding deeper capped
 deeper_capped n a d = same_measure refl (min_of_left most d n)
 
@@ -54,7 +57,7 @@ deeper_min n m = same_measure refl (step m.depth n most) where
   step : (d k t : ℕ) → min (d + min k t) t ≡ min (d + k) t
   step d k t = omega arith
 
-pub with_nodes_capped : (n a d : ℕ) → with_nodes n (capped a d) ≡ capped (a + n) d
+with_nodes_capped : (n a d : ℕ) → with_nodes n (capped a d) ≡ capped (a + n) d
 unfolding with_nodes capped
 with_nodes_capped n a d = same_measure (min_of_left most a n) refl
 
@@ -84,9 +87,47 @@ deepest_of_capped g m [] = sym (zero_min m) where
   zero_min k = omega arith
 deepest_of_capped g m (x ∷ xs) = ap (max (min (g x) m)) (deepest_of_capped g m xs) ∙ max_of_min m (g x) (deepest (map g xs))
 
-pub all_capped : {T : Type 0} (f g : T → ℕ) (xs : List T) → all_measured (λ x. capped (f x) (g x)) xs ≡ capped (sum (map f xs)) (deepest (map g xs))
+all_capped : {T : Type 0} (f g : T → ℕ) (xs : List T) → all_measured (λ x. capped (f x) (g x)) xs ≡ capped (sum (map f xs)) (deepest (map g xs))
 unfolding all_measured capped
 all_capped f g xs = same_measure (sum_of_capped f most xs) (deepest_of_capped g most xs)
+
+-- Each step of the code on measures is the step on extents, measured.
+pub given : (a : Extent) → measured a ≡ measured a
+given a = refl
+
+pub nothing_is : nothing ≡ measured e.nothing
+unfolding measured
+nothing_is = nothing_capped
+
+pub leaf_is : leaf ≡ measured e.leaf
+unfolding measured
+leaf_is = leaf_capped
+
+pub beside_is : {m n : Measure} (a b : Extent) → m ≡ measured a → n ≡ measured b → beside m n ≡ measured (e.beside a b)
+unfolding measured
+beside_is {m} {n} a b p q = (λ i. beside (p i) (q i)) ∙ beside_capped a.size a.depth b.size b.depth
+
+pub node_is : {m : Measure} (a : Extent) → m ≡ measured a → node m ≡ measured (e.node a)
+unfolding measured
+node_is {m} a p = ap node p ∙ node_capped a.size a.depth
+
+pub deeper_is : (by : ℕ) {m : Measure} (a : Extent) → m ≡ measured a → deeper by m ≡ measured (e.deeper by a)
+unfolding measured
+deeper_is by {m} a p = ap (deeper by) p ∙ deeper_capped by a.size a.depth
+
+pub with_nodes_is : (nodes : ℕ) {m : Measure} (a : Extent) → m ≡ measured a → with_nodes nodes m ≡ measured (e.with_nodes nodes a)
+unfolding measured
+with_nodes_is nodes {m} a p = ap (with_nodes nodes) p ∙ with_nodes_capped nodes a.size a.depth
+
+pub all_is : {T : Type 0} (f : T → Extent) (xs : List T) → all_measured (λ x. measured (f x)) xs ≡ measured (e.all_beside (map f xs))
+unfolding measured
+all_is f xs =
+    all_capped (λ x. (f x).size) (λ x. (f x).depth) xs
+    ∙ (λ i. capped (sum (sym (map-map size_of f xs) i)) (deepest (sym (map-map depth_of f xs) i)))
+
+-- the measure of a tree, from the extent of its layer
+pub from_layer : {T : Type 0} (extent : T → Extent) {t u : T} {a : Extent} {m : Measure} → u ≡ t → extent u ≡ a → m ≡ measured a → measured (extent t) ≡ m
+from_layer extent r l p = ap (λ y. measured (extent y)) (sym r) ∙ ap measured l ∙ sym p
 
 sum_last : (ns : List ℕ) (n : ℕ) → sum (ns ++ n ∷ []) ≡ sum ns + n
 sum_last [] n = omega arith

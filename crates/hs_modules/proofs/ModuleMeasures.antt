@@ -1,17 +1,14 @@
 -- What the measures of modules and signatures are made of.
-use Rattle.std.proofs.Common.{◌≡◌, ◌+◌, List, length, refl, ap, sym, ◌∙◌}
-use Rattle.std.specs.Prelude.{map, max, sum}
-use Rattle.hs_forms.specs.Limits.{deepest}
+use Rattle.std.proofs.Common.{◌≡◌, List, length, refl, sym}
+use Rattle.std.specs.Prelude.{Bool, map}
 use Rattle.bp_base.specs.Texts.{Text}
-use Rattle.hs_modules.specs.Measures.{capped, nothing, leaf, beside, node, with_nodes, all_measured}
-use Rattle.hs_modules.proofs.Measuring.{nothing_capped, leaf_capped, beside_capped, node_capped, with_nodes_capped, all_capped}
-use Rattle.std.specs.Prelude.{Bool}
-use Rattle.hs_trees.specs.Types.{depth_of_atype, depth_of_type}
-use Rattle.hs_trees.specs.Kinds.{depth_of_kind}
-use Rattle.hs_modules.specs.Sizes.{size_of_atype, size_of_type, size_of_kind, size_of_decl}
-use Rattle.hs_modules.specs.Depths.{depth_of_decl}
-use Rattle.hs_modules.specs.Modules.{size_of_side, depth_of_side, size_of_field, depth_of_field, size_of_constr, depth_of_constr, size_of_top_decl, depth_of_top_decl, size_of_subs, depth_of_subs, size_of_export, depth_of_export, size_of_exports, depth_of_exports, size_of_item, depth_of_item, size_of_import_list, depth_of_import_list, size_of_top_slot, depth_of_top_slot, size_of_top_block, depth_of_top_block, size_of_sig_slot, depth_of_sig_slot, size_of_sig_block, depth_of_sig_block}
+use Rattle.hs_modules.specs.Extents as e
+use Rattle.hs_modules.specs.Measures.{nothing, leaf, beside, node, with_nodes, all_measured}
+use Rattle.hs_modules.proofs.Measuring.{given, nothing_is, leaf_is, beside_is, node_is, with_nodes_is, all_is}
 use Rattle.hs_modules.specs.Measured.{measure_of_atype, measure_of_btype, measure_of_type, measure_of_kind, measure_of_decl, measure_of_side, measure_of_field, measure_of_constr, measure_of_top_decl, measure_of_sig_decl, measure_of_subs, measure_of_export, measure_of_exports, measure_of_item, measure_of_import_list, measure_of_import, measure_of_top_slot, measure_of_top_block, measure_of_sig_slot, measure_of_sig_block, measure_of_module}
+use Rattle.hs_modules.specs.PartExtents.{extent_of_atype, extent_of_type, extent_of_kind}
+use Rattle.hs_modules.specs.ExpressionExtents.{extent_of_decl}
+use Rattle.hs_modules.specs.Modules.{extent_of_side, extent_of_field, extent_of_constr, extent_of_top_decl, extent_of_subs, extent_of_export, extent_of_exports, extent_of_item, extent_of_import_list, extent_of_top_slot, extent_of_top_block, extent_of_sig_slot, extent_of_sig_block}
 use Rattle.hs_trees.specs.declared.types.ATypeTree.{ATypeTree}
 use Rattle.hs_trees.specs.declared.types.BTypeTree.{BTypeTree}
 use Rattle.hs_trees.specs.declared.types.TypeTree.{TypeTree}
@@ -59,99 +56,99 @@ field_measured t = refl
 
 pub constr-Prefix : (con : ConTree) (fields : List Field) → measure_of_constr (v_constr.Prefix con fields) ≡ node (all_measured measure_of_field fields)
 unfolding measure_of_constr measure_of_field
-constr-Prefix con fields = sym (ap node (all_capped size_of_field depth_of_field fields) ∙ node_capped (sum (map size_of_field fields)) (deepest (map depth_of_field fields)))
+constr-Prefix con fields = sym (node_is (e.all_beside (map extent_of_field fields)) (all_is extent_of_field fields))
 
 pub constr-Infix : (left : ConstrSide) (op : ConOpTree) (right : ConstrSide) → measure_of_constr (v_constr.Infix left op right) ≡ node (beside (measure_of_side left) (measure_of_side right))
 unfolding measure_of_constr measure_of_side
-constr-Infix left op right = sym (ap node (beside_capped (size_of_side left) (depth_of_side left) (size_of_side right) (depth_of_side right)) ∙ node_capped ((size_of_side left) + (size_of_side right)) (max (depth_of_side left) (depth_of_side right)))
+constr-Infix left op right = sym (node_is (e.beside (extent_of_side left) (extent_of_side right)) (beside_is (extent_of_side left) (extent_of_side right) (given (extent_of_side left)) (given (extent_of_side right))))
 
 pub top_decl-EmptyData : (name : Text) (params : List Text) → measure_of_top_decl (v_top_decl.EmptyData name params) ≡ leaf
 unfolding measure_of_top_decl
-top_decl-EmptyData name params = sym (leaf_capped)
+top_decl-EmptyData name params = sym leaf_is
 
 pub top_decl-Data : (name : Text) (params : List Text) (first : ConstrTree) (rest : List ConstrTree) → measure_of_top_decl (v_top_decl.Data name params first rest) ≡ node (beside (measure_of_constr first) (all_measured measure_of_constr rest))
 unfolding measure_of_constr measure_of_top_decl
-top_decl-Data name params first rest = sym (ap node (ap (beside (capped (size_of_constr first) (depth_of_constr first))) (all_capped size_of_constr depth_of_constr rest) ∙ beside_capped (size_of_constr first) (depth_of_constr first) (sum (map size_of_constr rest)) (deepest (map depth_of_constr rest))) ∙ node_capped ((size_of_constr first) + (sum (map size_of_constr rest))) (max (depth_of_constr first) (deepest (map depth_of_constr rest))))
+top_decl-Data name params first rest = sym (node_is (e.beside (extent_of_constr first) (e.all_beside (map extent_of_constr rest))) (beside_is (extent_of_constr first) (e.all_beside (map extent_of_constr rest)) (given (extent_of_constr first)) (all_is extent_of_constr rest)))
 
 pub top_decl-Newtype : (name : Text) (params : List Text) (con : ConTree) (atype : ATypeTree) → measure_of_top_decl (v_top_decl.Newtype name params con atype) ≡ node (measure_of_atype atype)
 unfolding measure_of_atype measure_of_top_decl
-top_decl-Newtype name params con atype = sym (node_capped (size_of_atype atype) (depth_of_atype atype))
+top_decl-Newtype name params con atype = sym (node_is (extent_of_atype atype) (given (extent_of_atype atype)))
 
 pub top_decl-Synonym : (name : Text) (params : List Text) (ty : TypeTree) → measure_of_top_decl (v_top_decl.Synonym name params ty) ≡ node (measure_of_type ty)
 unfolding measure_of_top_decl measure_of_type
-top_decl-Synonym name params ty = sym (node_capped (size_of_type ty) (depth_of_type ty))
+top_decl-Synonym name params ty = sym (node_is (extent_of_type ty) (given (extent_of_type ty)))
 
 pub top_decl-Decl : (decl : DeclTree) → measure_of_top_decl (v_top_decl.Decl decl) ≡ node (measure_of_decl decl)
 unfolding measure_of_decl measure_of_top_decl
-top_decl-Decl decl = sym (node_capped (size_of_decl decl) (depth_of_decl decl))
+top_decl-Decl decl = sym (node_is (extent_of_decl decl) (given (extent_of_decl decl)))
 
 pub sig_decl-Top : (decl : TopDeclTree) → measure_of_sig_decl (v_sig_decl.Top decl) ≡ node (measure_of_top_decl decl)
 unfolding measure_of_sig_decl measure_of_top_decl
-sig_decl-Top decl = sym (node_capped (size_of_top_decl decl) (depth_of_top_decl decl))
+sig_decl-Top decl = sym (node_is (extent_of_top_decl decl) (given (extent_of_top_decl decl)))
 
 pub sig_decl-Kinded : (name : Text) (kind : KindTree) → measure_of_sig_decl (v_sig_decl.Kinded name kind) ≡ node (measure_of_kind kind)
 unfolding measure_of_kind measure_of_sig_decl
-sig_decl-Kinded name kind = sym (node_capped (size_of_kind kind) (depth_of_kind kind))
+sig_decl-Kinded name kind = sym (node_is (extent_of_kind kind) (given (extent_of_kind kind)))
 
 pub subs-All : measure_of_subs v_subs.All ≡ leaf
 unfolding measure_of_subs
-subs-All = sym (leaf_capped)
+subs-All = sym leaf_is
 
 pub subs-Only : (names : List CNameTree) → measure_of_subs (v_subs.Only names) ≡ with_nodes (length names) (leaf)
 unfolding measure_of_subs
-subs-Only names = sym (ap (with_nodes (length names)) (leaf_capped) ∙ with_nodes_capped (length names) (1) (0))
+subs-Only names = sym (with_nodes_is (length names) e.leaf leaf_is)
 
 pub export-Var : (name : QVarTree) → measure_of_export (v_export.Var name) ≡ leaf
 unfolding measure_of_export
-export-Var name = sym (leaf_capped)
+export-Var name = sym leaf_is
 
 pub export-Type : (name : Text) → measure_of_export (v_export.Type name) ≡ leaf
 unfolding measure_of_export
-export-Type name = sym (leaf_capped)
+export-Type name = sym leaf_is
 
 pub export-TypeWith : (name : Text) (subs : SubsTree) → measure_of_export (v_export.TypeWith name subs) ≡ node (measure_of_subs subs)
 unfolding measure_of_export measure_of_subs
-export-TypeWith name subs = sym (node_capped (size_of_subs subs) (depth_of_subs subs))
+export-TypeWith name subs = sym (node_is (extent_of_subs subs) (given (extent_of_subs subs)))
 
 pub export-Module : (name : Text) → measure_of_export (v_export.Module name) ≡ leaf
 unfolding measure_of_export
-export-Module name = sym (leaf_capped)
+export-Module name = sym leaf_is
 
 pub exports_measured : (t : ExportsTree) → measure_of_exports t ≡ node (all_measured measure_of_export t.exports)
 unfolding measure_of_export measure_of_exports
-exports_measured t = sym (ap node (all_capped size_of_export depth_of_export t.exports) ∙ node_capped (sum (map size_of_export t.exports)) (deepest (map depth_of_export t.exports)))
+exports_measured t = sym (node_is (e.all_beside (map extent_of_export t.exports)) (all_is extent_of_export t.exports))
 
 pub item-Var : (name : VarTree) → measure_of_item (v_item.Var name) ≡ leaf
 unfolding measure_of_item
-item-Var name = sym (leaf_capped)
+item-Var name = sym leaf_is
 
 pub item-Type : (name : Text) → measure_of_item (v_item.Type name) ≡ leaf
 unfolding measure_of_item
-item-Type name = sym (leaf_capped)
+item-Type name = sym leaf_is
 
 pub item-TypeWith : (name : Text) (subs : SubsTree) → measure_of_item (v_item.TypeWith name subs) ≡ node (measure_of_subs subs)
 unfolding measure_of_item measure_of_subs
-item-TypeWith name subs = sym (node_capped (size_of_subs subs) (depth_of_subs subs))
+item-TypeWith name subs = sym (node_is (extent_of_subs subs) (given (extent_of_subs subs)))
 
 pub import_list-Everything : measure_of_import_list v_import_list.Everything ≡ nothing
 unfolding measure_of_import_list
-import_list-Everything = sym (nothing_capped)
+import_list-Everything = sym nothing_is
 
 pub import_list-Only : (items : List ItemTree) (trailing : Bool) → measure_of_import_list (v_import_list.Only items trailing) ≡ all_measured measure_of_item items
 unfolding measure_of_import_list measure_of_item
-import_list-Only items trailing = sym (all_capped size_of_item depth_of_item items)
+import_list-Only items trailing = sym (all_is extent_of_item items)
 
 pub import_list-Hiding : (items : List ItemTree) (trailing : Bool) → measure_of_import_list (v_import_list.Hiding items trailing) ≡ all_measured measure_of_item items
 unfolding measure_of_import_list measure_of_item
-import_list-Hiding items trailing = sym (all_capped size_of_item depth_of_item items)
+import_list-Hiding items trailing = sym (all_is extent_of_item items)
 
 pub import_measured : (t : ImpDeclTree) → measure_of_import t ≡ node (measure_of_import_list t.list)
 unfolding measure_of_import measure_of_import_list
-import_measured t = sym (node_capped (size_of_import_list t.list) (depth_of_import_list t.list))
+import_measured t = sym (node_is (extent_of_import_list t.list) (given (extent_of_import_list t.list)))
 
 pub top_slot-Empty : measure_of_top_slot v_top_slot.Empty ≡ nothing
 unfolding measure_of_top_slot
-top_slot-Empty = sym (nothing_capped)
+top_slot-Empty = sym nothing_is
 
 pub top_slot-Import : (decl : ImpDeclTree) → measure_of_top_slot (v_top_slot.Import decl) ≡ measure_of_import decl
 unfolding measure_of_import measure_of_top_slot
@@ -163,11 +160,11 @@ top_slot-Decl decl = refl
 
 pub top_block_measured : (t : TopBlock) → measure_of_top_block t ≡ beside (measure_of_top_slot t.first) (all_measured measure_of_top_slot t.rest)
 unfolding measure_of_top_block measure_of_top_slot
-top_block_measured t = sym (ap (beside (capped (size_of_top_slot t.first) (depth_of_top_slot t.first))) (all_capped size_of_top_slot depth_of_top_slot t.rest) ∙ beside_capped (size_of_top_slot t.first) (depth_of_top_slot t.first) (sum (map size_of_top_slot t.rest)) (deepest (map depth_of_top_slot t.rest)))
+top_block_measured t = sym (beside_is (extent_of_top_slot t.first) (e.all_beside (map extent_of_top_slot t.rest)) (given (extent_of_top_slot t.first)) (all_is extent_of_top_slot t.rest))
 
 pub sig_slot-Empty : measure_of_sig_slot v_sig_slot.Empty ≡ nothing
 unfolding measure_of_sig_slot
-sig_slot-Empty = sym (nothing_capped)
+sig_slot-Empty = sym nothing_is
 
 pub sig_slot-Import : (decl : ImpDeclTree) → measure_of_sig_slot (v_sig_slot.Import decl) ≡ measure_of_import decl
 unfolding measure_of_import measure_of_sig_slot
@@ -179,22 +176,22 @@ sig_slot-Decl decl = refl
 
 pub sig_block_measured : (t : SigBlock) → measure_of_sig_block t ≡ beside (measure_of_sig_slot t.first) (all_measured measure_of_sig_slot t.rest)
 unfolding measure_of_sig_block measure_of_sig_slot
-sig_block_measured t = sym (ap (beside (capped (size_of_sig_slot t.first) (depth_of_sig_slot t.first))) (all_capped size_of_sig_slot depth_of_sig_slot t.rest) ∙ beside_capped (size_of_sig_slot t.first) (depth_of_sig_slot t.first) (sum (map size_of_sig_slot t.rest)) (deepest (map depth_of_sig_slot t.rest)))
+sig_block_measured t = sym (beside_is (extent_of_sig_slot t.first) (e.all_beside (map extent_of_sig_slot t.rest)) (given (extent_of_sig_slot t.first)) (all_is extent_of_sig_slot t.rest))
 
 pub module-Headless : (block : TopBlock) → measure_of_module (v_module.Headless block) ≡ node (measure_of_top_block block)
 unfolding measure_of_module measure_of_top_block
-module-Headless block = sym (node_capped (size_of_top_block block) (depth_of_top_block block))
+module-Headless block = sym (node_is (extent_of_top_block block) (given (extent_of_top_block block)))
 
 pub module-Named : (name : Text) (block : TopBlock) → measure_of_module (v_module.Named name block) ≡ node (measure_of_top_block block)
 unfolding measure_of_module measure_of_top_block
-module-Named name block = sym (node_capped (size_of_top_block block) (depth_of_top_block block))
+module-Named name block = sym (node_is (extent_of_top_block block) (given (extent_of_top_block block)))
 
 pub module-Exporting : (name : Text) (exports : ExportsTree) (block : TopBlock) → measure_of_module (v_module.Exporting name exports block) ≡ node (beside (measure_of_exports exports) (measure_of_top_block block))
 unfolding measure_of_exports measure_of_module measure_of_top_block
-module-Exporting name exports block = sym (ap node (beside_capped (size_of_exports exports) (depth_of_exports exports) (size_of_top_block block) (depth_of_top_block block)) ∙ node_capped ((size_of_exports exports) + (size_of_top_block block)) (max (depth_of_exports exports) (depth_of_top_block block)))
+module-Exporting name exports block = sym (node_is (e.beside (extent_of_exports exports) (extent_of_top_block block)) (beside_is (extent_of_exports exports) (extent_of_top_block block) (given (extent_of_exports exports)) (given (extent_of_top_block block))))
 
 pub module-Signature : (name : Text) (block : SigBlock) → measure_of_module (v_module.Signature name block) ≡ node (measure_of_sig_block block)
 unfolding measure_of_module measure_of_sig_block
-module-Signature name block = sym (node_capped (size_of_sig_block block) (depth_of_sig_block block))
+module-Signature name block = sym (node_is (extent_of_sig_block block) (given (extent_of_sig_block block)))
 
 pub ruleset module_equations = (side-Lazy, side-Strict, field_measured, constr-Prefix, constr-Infix, top_decl-EmptyData, top_decl-Data, top_decl-Newtype, top_decl-Synonym, top_decl-Decl, sig_decl-Top, sig_decl-Kinded, subs-All, subs-Only, export-Var, export-Type, export-TypeWith, export-Module, exports_measured, item-Var, item-Type, item-TypeWith, import_list-Everything, import_list-Only, import_list-Hiding, import_measured, top_slot-Empty, top_slot-Import, top_slot-Decl, top_block_measured, sig_slot-Empty, sig_slot-Import, sig_slot-Decl, sig_block_measured, module-Headless, module-Named, module-Exporting, module-Signature)

@@ -1,10 +1,12 @@
-pub mod Depths
+pub mod Extents
+pub mod ExpressionExtents
 pub mod Folds
 pub mod Formed
 pub mod Measured
 pub mod Measures
+pub mod ModuleForms
 pub mod ModuleTokens
 pub mod Modules
-pub mod Sizes
+pub mod PartExtents
 pub mod Tokens
 pub mod Words

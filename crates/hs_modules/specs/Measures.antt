@@ -2,6 +2,7 @@
 use Rattle.std.specs.Prelude.{ℕ, ◌+◌, max, min, List, map, sum}
 use Rattle.hs_forms.specs.Limits.{deepest}
 use Rattle.hs_modules.specs.declared.measure.Measure.{Measure}
+use Rattle.hs_modules.specs.Extents.{Extent}
 
 -- the greatest u64
 abbrev pub most : ℕ
@@ -9,6 +10,10 @@ most = 18446744073709551615
 
 unfoldable pub capped : ℕ → ℕ → Measure
 capped size depth = record { size = min size most; depth = min depth most }
+
+-- an extent as the code counts it
+unfoldable pub measured : Extent → Measure
+measured e = capped e.size e.depth
 
 unfoldable pub nothing : Measure
 nothing = record { size = 0; depth = 0 }

@@ -1,10 +1,9 @@
--- The sizes and depths of modules and signatures, from those of their parts.
-use Rattle.std.specs.Prelude.{ℕ, ◌+◌, max, length, map, sum}
-use Rattle.hs_forms.specs.Limits.{deepest}
-use Rattle.hs_trees.specs.Types.{depth_of_atype, depth_of_btype, depth_of_type}
-use Rattle.hs_trees.specs.Kinds.{depth_of_kind}
-use Rattle.hs_modules.specs.Sizes.{size_of_atype, size_of_btype, size_of_type, size_of_kind, size_of_decl}
-use Rattle.hs_modules.specs.Depths.{depth_of_decl}
+-- How large and how deep modules and signatures are. The places of a block are no nodes, and each name of an export or import list is one. Names have no depth, and the brackets
+-- of such lists add none.
+use Rattle.std.specs.Prelude.{ℕ, length, map}
+use Rattle.hs_modules.specs.Extents.{Extent, nothing, leaf, beside, all_beside, node, with_nodes}
+use Rattle.hs_modules.specs.PartExtents.{extent_of_atype, extent_of_btype, extent_of_type, extent_of_kind}
+use Rattle.hs_modules.specs.ExpressionExtents.{extent_of_decl}
 use Rattle.hs_modules.specs.declared.declarations.ConstrSide.{ConstrSide}
 use Rattle.hs_modules.specs.declared.declarations.ConstrSide.TheVariants as v_side
 use Rattle.hs_modules.specs.declared.declarations.Field.{Field}
@@ -33,147 +32,79 @@ use Rattle.hs_modules.specs.declared.declarations.SigBlock.{SigBlock}
 use Rattle.hs_modules.specs.declared.module.Module.{Module}
 use Rattle.hs_modules.specs.declared.module.Module.TheVariants as v_module
 
--- `btype | "!" atype`
-abbrev pub size_of_side : ConstrSide → ℕ
-size_of_side (v_side.Lazy btype) = size_of_btype btype
-size_of_side (v_side.Strict atype) = size_of_atype atype
+abbrev pub extent_of_side : ConstrSide → Extent
+extent_of_side (v_side.Lazy btype) = extent_of_btype btype
+extent_of_side (v_side.Strict atype) = extent_of_atype atype
 
-abbrev pub depth_of_side : ConstrSide → ℕ
-depth_of_side (v_side.Lazy btype) = depth_of_btype btype
-depth_of_side (v_side.Strict atype) = depth_of_atype atype
+abbrev pub extent_of_field : Field → Extent
+extent_of_field t = extent_of_atype t.atype
 
--- `["!"] atype`
-abbrev pub size_of_field : Field → ℕ
-size_of_field t = size_of_atype t.atype
+abbrev pub extent_of_constr : ConstrTree → Extent
+extent_of_constr (v_constr.Prefix con fields) = node (all_beside (map extent_of_field fields))
+extent_of_constr (v_constr.Infix left op right) = node (beside (extent_of_side left) (extent_of_side right))
 
-abbrev pub depth_of_field : Field → ℕ
-depth_of_field t = depth_of_atype t.atype
+abbrev pub extent_of_top_decl : TopDeclTree → Extent
+extent_of_top_decl (v_top_decl.EmptyData name params) = leaf
+extent_of_top_decl (v_top_decl.Data name params first rest) = node (beside (extent_of_constr first) (all_beside (map extent_of_constr rest)))
+extent_of_top_decl (v_top_decl.Newtype name params con atype) = node (extent_of_atype atype)
+extent_of_top_decl (v_top_decl.Synonym name params ty) = node (extent_of_type ty)
+extent_of_top_decl (v_top_decl.Decl decl) = node (extent_of_decl decl)
 
-abbrev pub size_of_constr : ConstrTree → ℕ
-size_of_constr (v_constr.Prefix con fields) = 1 + sum (map size_of_field fields)
-size_of_constr (v_constr.Infix left op right) = 1 + (size_of_side left + size_of_side right)
+abbrev pub extent_of_sig_decl : SigDeclTree → Extent
+extent_of_sig_decl (v_sig_decl.Top decl) = node (extent_of_top_decl decl)
+extent_of_sig_decl (v_sig_decl.Kinded name kind) = node (extent_of_kind kind)
 
-abbrev pub depth_of_constr : ConstrTree → ℕ
-depth_of_constr (v_constr.Prefix con fields) = deepest (map depth_of_field fields)
-depth_of_constr (v_constr.Infix left op right) = max (depth_of_side left) (depth_of_side right)
+abbrev pub extent_of_subs : SubsTree → Extent
+extent_of_subs v_subs.All = leaf
+extent_of_subs (v_subs.Only names) = with_nodes (length names) leaf
 
-abbrev pub size_of_top_decl : TopDeclTree → ℕ
-size_of_top_decl (v_top_decl.EmptyData name params) = 1
-size_of_top_decl (v_top_decl.Data name params first rest) = 1 + (size_of_constr first + sum (map size_of_constr rest))
-size_of_top_decl (v_top_decl.Newtype name params con atype) = 1 + size_of_atype atype
-size_of_top_decl (v_top_decl.Synonym name params ty) = 1 + size_of_type ty
-size_of_top_decl (v_top_decl.Decl decl) = 1 + size_of_decl decl
+abbrev pub extent_of_export : ExportTree → Extent
+extent_of_export (v_export.Var name) = leaf
+extent_of_export (v_export.Type name) = leaf
+extent_of_export (v_export.TypeWith name subs) = node (extent_of_subs subs)
+extent_of_export (v_export.Module name) = leaf
 
-abbrev pub depth_of_top_decl : TopDeclTree → ℕ
-depth_of_top_decl (v_top_decl.EmptyData name params) = 0
-depth_of_top_decl (v_top_decl.Data name params first rest) = max (depth_of_constr first) (deepest (map depth_of_constr rest))
-depth_of_top_decl (v_top_decl.Newtype name params con atype) = depth_of_atype atype
-depth_of_top_decl (v_top_decl.Synonym name params ty) = depth_of_type ty
-depth_of_top_decl (v_top_decl.Decl decl) = depth_of_decl decl
+abbrev pub extent_of_exports : ExportsTree → Extent
+extent_of_exports t = node (all_beside (map extent_of_export t.exports))
 
-abbrev pub size_of_sig_decl : SigDeclTree → ℕ
-size_of_sig_decl (v_sig_decl.Top decl) = 1 + size_of_top_decl decl
-size_of_sig_decl (v_sig_decl.Kinded name kind) = 1 + size_of_kind kind
+abbrev pub extent_of_item : ItemTree → Extent
+extent_of_item (v_item.Var name) = leaf
+extent_of_item (v_item.Type name) = leaf
+extent_of_item (v_item.TypeWith name subs) = node (extent_of_subs subs)
 
-abbrev pub depth_of_sig_decl : SigDeclTree → ℕ
-depth_of_sig_decl (v_sig_decl.Top decl) = depth_of_top_decl decl
-depth_of_sig_decl (v_sig_decl.Kinded name kind) = depth_of_kind kind
+abbrev pub extent_of_import_list : ImportList → Extent
+extent_of_import_list v_import_list.Everything = nothing
+extent_of_import_list (v_import_list.Only items trailing) = all_beside (map extent_of_item items)
+extent_of_import_list (v_import_list.Hiding items trailing) = all_beside (map extent_of_item items)
 
--- each name is a node; names have no depth, and the brackets of export and import lists add none
-abbrev pub size_of_subs : SubsTree → ℕ
-size_of_subs v_subs.All = 1
-size_of_subs (v_subs.Only names) = 1 + length names
+abbrev pub extent_of_import : ImpDeclTree → Extent
+extent_of_import t = node (extent_of_import_list t.list)
 
-abbrev pub depth_of_subs : SubsTree → ℕ
-depth_of_subs v_subs.All = 0
-depth_of_subs (v_subs.Only names) = 0
+abbrev pub extent_of_top_slot : TopSlot → Extent
+extent_of_top_slot v_top_slot.Empty = nothing
+extent_of_top_slot (v_top_slot.Import decl) = extent_of_import decl
+extent_of_top_slot (v_top_slot.Decl decl) = extent_of_top_decl decl
 
-abbrev pub size_of_export : ExportTree → ℕ
-size_of_export (v_export.Var name) = 1
-size_of_export (v_export.Type name) = 1
-size_of_export (v_export.TypeWith name subs) = 1 + size_of_subs subs
-size_of_export (v_export.Module name) = 1
+abbrev pub extent_of_top_block : TopBlock → Extent
+extent_of_top_block t = beside (extent_of_top_slot t.first) (all_beside (map extent_of_top_slot t.rest))
 
-abbrev pub depth_of_export : ExportTree → ℕ
-depth_of_export (v_export.Var name) = 0
-depth_of_export (v_export.Type name) = 0
-depth_of_export (v_export.TypeWith name subs) = depth_of_subs subs
-depth_of_export (v_export.Module name) = 0
+abbrev pub extent_of_sig_slot : SigSlot → Extent
+extent_of_sig_slot v_sig_slot.Empty = nothing
+extent_of_sig_slot (v_sig_slot.Import decl) = extent_of_import decl
+extent_of_sig_slot (v_sig_slot.Decl decl) = extent_of_sig_decl decl
 
-abbrev pub size_of_exports : ExportsTree → ℕ
-size_of_exports t = 1 + sum (map size_of_export t.exports)
-
-abbrev pub depth_of_exports : ExportsTree → ℕ
-depth_of_exports t = deepest (map depth_of_export t.exports)
-
-abbrev pub size_of_item : ItemTree → ℕ
-size_of_item (v_item.Var name) = 1
-size_of_item (v_item.Type name) = 1
-size_of_item (v_item.TypeWith name subs) = 1 + size_of_subs subs
-
-abbrev pub depth_of_item : ItemTree → ℕ
-depth_of_item (v_item.Var name) = 0
-depth_of_item (v_item.Type name) = 0
-depth_of_item (v_item.TypeWith name subs) = depth_of_subs subs
-
-abbrev pub size_of_import_list : ImportList → ℕ
-size_of_import_list v_import_list.Everything = 0
-size_of_import_list (v_import_list.Only items trailing) = sum (map size_of_item items)
-size_of_import_list (v_import_list.Hiding items trailing) = sum (map size_of_item items)
-
-abbrev pub depth_of_import_list : ImportList → ℕ
-depth_of_import_list v_import_list.Everything = 0
-depth_of_import_list (v_import_list.Only items trailing) = deepest (map depth_of_item items)
-depth_of_import_list (v_import_list.Hiding items trailing) = deepest (map depth_of_item items)
-
-abbrev pub size_of_import : ImpDeclTree → ℕ
-size_of_import t = 1 + size_of_import_list t.list
-
-abbrev pub depth_of_import : ImpDeclTree → ℕ
-depth_of_import t = depth_of_import_list t.list
-
-abbrev pub size_of_top_slot : TopSlot → ℕ
-size_of_top_slot v_top_slot.Empty = 0
-size_of_top_slot (v_top_slot.Import decl) = size_of_import decl
-size_of_top_slot (v_top_slot.Decl decl) = size_of_top_decl decl
-
-abbrev pub depth_of_top_slot : TopSlot → ℕ
-depth_of_top_slot v_top_slot.Empty = 0
-depth_of_top_slot (v_top_slot.Import decl) = depth_of_import decl
-depth_of_top_slot (v_top_slot.Decl decl) = depth_of_top_decl decl
-
--- the places of a block are no nodes
-abbrev pub size_of_top_block : TopBlock → ℕ
-size_of_top_block t = size_of_top_slot t.first + sum (map size_of_top_slot t.rest)
-
-abbrev pub depth_of_top_block : TopBlock → ℕ
-depth_of_top_block t = max (depth_of_top_slot t.first) (deepest (map depth_of_top_slot t.rest))
-
-abbrev pub size_of_sig_slot : SigSlot → ℕ
-size_of_sig_slot v_sig_slot.Empty = 0
-size_of_sig_slot (v_sig_slot.Import decl) = size_of_import decl
-size_of_sig_slot (v_sig_slot.Decl decl) = size_of_sig_decl decl
-
-abbrev pub depth_of_sig_slot : SigSlot → ℕ
-depth_of_sig_slot v_sig_slot.Empty = 0
-depth_of_sig_slot (v_sig_slot.Import decl) = depth_of_import decl
-depth_of_sig_slot (v_sig_slot.Decl decl) = depth_of_sig_decl decl
-
-abbrev pub size_of_sig_block : SigBlock → ℕ
-size_of_sig_block t = size_of_sig_slot t.first + sum (map size_of_sig_slot t.rest)
-
-abbrev pub depth_of_sig_block : SigBlock → ℕ
-depth_of_sig_block t = max (depth_of_sig_slot t.first) (deepest (map depth_of_sig_slot t.rest))
+abbrev pub extent_of_sig_block : SigBlock → Extent
+extent_of_sig_block t = beside (extent_of_sig_slot t.first) (all_beside (map extent_of_sig_slot t.rest))
 
 -- a module or signature
+abbrev pub extent_of_module : Module → Extent
+extent_of_module (v_module.Headless block) = node (extent_of_top_block block)
+extent_of_module (v_module.Named name block) = node (extent_of_top_block block)
+extent_of_module (v_module.Exporting name exports block) = node (beside (extent_of_exports exports) (extent_of_top_block block))
+extent_of_module (v_module.Signature name block) = node (extent_of_sig_block block)
+
 abbrev pub size_of_module : Module → ℕ
-size_of_module (v_module.Headless block) = 1 + size_of_top_block block
-size_of_module (v_module.Named name block) = 1 + size_of_top_block block
-size_of_module (v_module.Exporting name exports block) = 1 + (size_of_exports exports + size_of_top_block block)
-size_of_module (v_module.Signature name block) = 1 + size_of_sig_block block
+size_of_module m = (extent_of_module m).size
 
 abbrev pub depth_of_module : Module → ℕ
-depth_of_module (v_module.Headless block) = depth_of_top_block block
-depth_of_module (v_module.Named name block) = depth_of_top_block block
-depth_of_module (v_module.Exporting name exports block) = max (depth_of_exports exports) (depth_of_top_block block)
-depth_of_module (v_module.Signature name block) = depth_of_sig_block block
+depth_of_module m = (extent_of_module m).depth

@@ -1,6 +1,6 @@
 //! The measures of expressions, alternatives, guards, right sides and declarations.
 ghost use Rattle.std.specs.Prelude.{◌≡◌, ◌+◌, map, min, sum};
-ghost use Rattle.hs_modules.specs.Depths.{operators_of_infix, operators_of_link, operators_of_signed};
+ghost use Rattle.hs_modules.specs.ExpressionExtents.{operators_of_infix, operators_of_link, operators_of_signed};
 ghost use Rattle.hs_modules.specs.Measures.{all_measured, most};
 ghost use Rattle.hs_modules.specs.Measured.{measure_of_aexp, measure_of_alt, measure_of_alt_block, measure_of_alt_body, measure_of_alt_slot, measure_of_case, measure_of_decl, measure_of_decl_block, measure_of_decl_slot, measure_of_exp, measure_of_gd, measure_of_gda, measure_of_guard, measure_of_if, measure_of_infix, measure_of_lambda, measure_of_let, measure_of_locals, measure_of_link, measure_of_operand, measure_of_rhs, measure_of_rhs_body, measure_of_signed};
 

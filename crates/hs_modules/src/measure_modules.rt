@@ -14,7 +14,7 @@ use crate::module::{ExportTree, ExportsTree, ImpDeclTree, ImportList, ItemTree, 
 
 /// How many nodes the trees of a module or signature have, one for each production of the grammar; each part of a chain of kinds
 /// is a `kind`. The greatest u64 if there are more. It takes no memory.
-#[tactic(auto, unfolding(crate::specs::Measured::measure_of_module, crate::specs::Measures::capped))]
+#[tactic(auto, unfolding(crate::specs::Measured::measure_of_module, crate::specs::Measures::measured, crate::specs::Measures::capped))]
 pub fn size(module: &Module) -> u64
     ensures { result ≡ min (size_of_module «module».now) most }
 {
@@ -22,7 +22,7 @@ pub fn size(module: &Module) -> u64
 }
 
 /// How deep the trees of a module or signature are; the greatest u64 if they are deeper. It takes no memory.
-#[tactic(auto, unfolding(crate::specs::Measured::measure_of_module, crate::specs::Measures::capped))]
+#[tactic(auto, unfolding(crate::specs::Measured::measure_of_module, crate::specs::Measures::measured, crate::specs::Measures::capped))]
 pub fn depth(module: &Module) -> u64
     ensures { result ≡ min (depth_of_module «module».now) most }
 {

@@ -3,9 +3,9 @@ ghost use Rattle.std.specs.Prelude.{◌≡◌, min};
 ghost use Rattle.hs_trees.specs.Types.{depth_of_type};
 ghost use Rattle.hs_trees.specs.Kinds.{depth_of_kind};
 ghost use Rattle.hs_trees.specs.Patterns.{depth_of_pat};
-ghost use Rattle.hs_modules.specs.Depths.{depth_of_decl};
+ghost use Rattle.hs_modules.specs.ExpressionExtents.{depth_of_decl, size_of_decl};
 ghost use Rattle.hs_modules.specs.Measures.{most};
-ghost use Rattle.hs_modules.specs.Sizes.{size_of_decl, size_of_kind, size_of_pat, size_of_type};
+ghost use Rattle.hs_modules.specs.PartExtents.{size_of_kind, size_of_pat, size_of_type};
 
 use crate::expressions::DeclTree;
 use crate::measure_expressions::measure_decl;
@@ -14,7 +14,7 @@ use crate::measure_types::{measure_kind, measure_type};
 use hs_trees::{KindTree, PatTree, TypeTree};
 
 /// How many nodes a type has; the greatest u64 if there are more. It takes no memory.
-#[tactic(auto, unfolding(crate::specs::Measured::measure_of_type, crate::specs::Measures::capped))]
+#[tactic(auto, unfolding(crate::specs::Measured::measure_of_type, crate::specs::Measures::measured, crate::specs::Measures::capped))]
 pub fn size_of_type(tree: &TypeTree) -> u64
     ensures { result ≡ min (size_of_type tree.now) most }
 {
@@ -22,7 +22,7 @@ pub fn size_of_type(tree: &TypeTree) -> u64
 }
 
 /// How deep a type is; the greatest u64 if it is deeper. It takes no memory.
-#[tactic(auto, unfolding(crate::specs::Measured::measure_of_type, crate::specs::Measures::capped))]
+#[tactic(auto, using(crate::proofs::PartDepths::type_depth_is), unfolding(crate::specs::Measured::measure_of_type, crate::specs::Measures::measured, crate::specs::Measures::capped))]
 pub fn depth_of_type(tree: &TypeTree) -> u64
     ensures { result ≡ min (depth_of_type tree.now) most }
 {
@@ -30,7 +30,7 @@ pub fn depth_of_type(tree: &TypeTree) -> u64
 }
 
 /// How many nodes a kind has; the greatest u64 if there are more. Each part of a chain is a `kind`. It takes no memory.
-#[tactic(auto, unfolding(crate::specs::Measured::measure_of_kind, crate::specs::Measures::capped))]
+#[tactic(auto, unfolding(crate::specs::Measured::measure_of_kind, crate::specs::Measures::measured, crate::specs::Measures::capped))]
 pub fn size_of_kind(tree: &KindTree) -> u64
     ensures { result ≡ min (size_of_kind tree.now) most }
 {
@@ -38,7 +38,7 @@ pub fn size_of_kind(tree: &KindTree) -> u64
 }
 
 /// How deep a kind is; the greatest u64 if it is deeper. It takes no memory.
-#[tactic(auto, unfolding(crate::specs::Measured::measure_of_kind, crate::specs::Measures::capped))]
+#[tactic(auto, using(crate::proofs::PartDepths::kind_depth_is), unfolding(crate::specs::Measured::measure_of_kind, crate::specs::Measures::measured, crate::specs::Measures::capped))]
 pub fn depth_of_kind(tree: &KindTree) -> u64
     ensures { result ≡ min (depth_of_kind tree.now) most }
 {
@@ -46,7 +46,7 @@ pub fn depth_of_kind(tree: &KindTree) -> u64
 }
 
 /// How many nodes a pattern has; the greatest u64 if there are more. It takes no memory.
-#[tactic(auto, unfolding(crate::specs::Measured::measure_of_pat, crate::specs::Measures::capped))]
+#[tactic(auto, unfolding(crate::specs::Measured::measure_of_pat, crate::specs::Measures::measured, crate::specs::Measures::capped))]
 pub fn size_of_pat(tree: &PatTree) -> u64
     ensures { result ≡ min (size_of_pat tree.now) most }
 {
@@ -54,7 +54,7 @@ pub fn size_of_pat(tree: &PatTree) -> u64
 }
 
 /// How deep a pattern is; the greatest u64 if it is deeper. It takes no memory.
-#[tactic(auto, unfolding(crate::specs::Measured::measure_of_pat, crate::specs::Measures::capped))]
+#[tactic(auto, using(crate::proofs::PartDepths::pat_depth_is), unfolding(crate::specs::Measured::measure_of_pat, crate::specs::Measures::measured, crate::specs::Measures::capped))]
 pub fn depth_of_pat(tree: &PatTree) -> u64
     ensures { result ≡ min (depth_of_pat tree.now) most }
 {
@@ -62,7 +62,7 @@ pub fn depth_of_pat(tree: &PatTree) -> u64
 }
 
 /// How many nodes a declaration has; the greatest u64 if there are more. It takes no memory.
-#[tactic(auto, unfolding(crate::specs::Measured::measure_of_decl, crate::specs::Measures::capped))]
+#[tactic(auto, unfolding(crate::specs::Measured::measure_of_decl, crate::specs::Measures::measured, crate::specs::Measures::capped))]
 pub fn size_of_decl(tree: &DeclTree) -> u64
     ensures { result ≡ min (size_of_decl tree.now) most }
 {
@@ -70,7 +70,7 @@ pub fn size_of_decl(tree: &DeclTree) -> u64
 }
 
 /// How deep a declaration is; the greatest u64 if it is deeper. It takes no memory.
-#[tactic(auto, unfolding(crate::specs::Measured::measure_of_decl, crate::specs::Measures::capped))]
+#[tactic(auto, unfolding(crate::specs::Measured::measure_of_decl, crate::specs::Measures::measured, crate::specs::Measures::capped))]
 pub fn depth_of_decl(tree: &DeclTree) -> u64
     ensures { result ≡ min (depth_of_decl tree.now) most }
 {

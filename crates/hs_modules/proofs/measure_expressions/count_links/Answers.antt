@@ -1,6 +1,6 @@
 use Rattle.std.proofs.Common.{◌+◌, ◌∙◌}
 use Rattle.std.specs.Prelude.{min}
-use Rattle.hs_modules.specs.Depths.{operators_of_link}
+use Rattle.hs_modules.specs.ExpressionExtents.{operators_of_link}
 use Rattle.hs_modules.specs.Measures.{most}
 use Rattle.hs_modules.proofs.Measuring.{count_more}
 use Rattle.hs_modules.proofs.measure_expressions.count_links.Goals as goal

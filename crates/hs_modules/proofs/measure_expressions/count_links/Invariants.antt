@@ -1,6 +1,6 @@
 use Rattle.std.proofs.Common.{◌≡◌, ◌+◌, take}
 use Rattle.std.specs.Prelude.{map, min, sum}
-use Rattle.hs_modules.specs.Depths.{operators_of_link}
+use Rattle.hs_modules.specs.ExpressionExtents.{operators_of_link}
 use Rattle.hs_modules.specs.Measures.{most}
 use Rattle.hs_modules.proofs.measure_expressions.count_links.Given as goal
 
