@@ -2,7 +2,7 @@
 use Rattle.std.proofs.Common.{◌≡◌, ℕ, zero, suc, ◌+◌, ◌<◌, ◌≤◌, Bool, true, false, List, [], ◌∷◌, ◌++◌, length, refl}
 use Rattle.std.proofs.Common.{sym, ap, ◌∙◌, append_assoc, true≢false, arith, length-append}
 use Rattle.std.specs.Prelude.{replicate}
-use Rattle.hs_forms.specs.Reading.{begins, Reads, Refuses}
+use Rattle.hs_forms.specs.Reading.{begins, Reads}
 use Rattle.hs_forms.specs.Answers.{Accepts, Rejects}
 use Rattle.hs_forms.specs.Forms.{commas_form}
 use Rattle.hs_forms.proofs.FormLemmas.{begins_same}

@@ -1,7 +1,6 @@
 -- The front of a list of tokens, and forms behind a token, before one, and in a row.
 use Rattle.std.proofs.Common.{◌≡◌, Bool, true, false, List, [], ◌∷◌, ◌++◌, refl, sym, ap, ◌∙◌, subst, append_assoc}
 use Rattle.std.proofs.Common.{true≢false}
-use Rattle.std.proofs.lemmas.List.{append-nil}
 use Rattle.hs_forms.specs.Reading.{Form, SameStart, begins, Reads, Refuses}
 use Rattle.hs_forms.specs.Forms.{behind, closed, closed_if, Completes, pair, CompletesPair}
 
