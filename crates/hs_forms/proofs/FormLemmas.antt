@@ -32,7 +32,8 @@ pub begins_same : {K : Type 0} → (f : K → Bool) (ts s : List K) → SameStar
 begins_same f [] s h = ap (begins f) h
 begins_same f (t ∷ ts) s h = ap (begins f) h.1
 
-uncons : {K : Type 0} (t : K) (xs ys : List K) → t ∷ xs ≡ t ∷ ys → xs ≡ ys
+-- lists alike behind one token
+pub uncons : {K : Type 0} (t : K) (xs ys : List K) → t ∷ xs ≡ t ∷ ys → xs ≡ ys
 uncons t xs ys e = cc
 
 pub reads_behind : {K T : Type 0} (t : K) (form : Form K T) (x : T) (rest : List K) → Reads form x rest →
