@@ -106,30 +106,6 @@ module _ {K T H X : Type 0} (form : Form K T) (head : Form K H) (items : X → L
         (t.2 ∙ end.0, end.1);
   }
 
-  shut_more : (xs : List X) (s : List K) (h h' : H) (xs' : List X) (after : List K) →
-      ((x : X) (more : List X) → form.Good (make h (xs ++ x ∷ more)) → ⊥) → form.Good (make h' xs') → h' ≡ h → (more : List X) → xs' ≡ xs ++ more →
-      s ≡ flat_map items more ++ after → (make h' xs' ≡ make h xs) × (after ≡ s)
-  shut_more xs s h h' xs' after none good eh [] ex e =
-      (ap (λ a. make a xs') eh ∙ ap (λ l. make h l) (ex ∙ append-nil xs), sym e)
-  shut_more xs s h h' xs' after none good eh (y ∷ more) ex e =
-      absurd (none y more (subst (λ l. form.Good (make h l)) ex (subst (λ a. form.Good (make a xs')) eh good)))
-
-  -- nothing may follow the last item, whatever stands here
-  pub chain_shut : (h : H) (xs : List X) (here : List K) → SoFar form head items make h xs here →
-      ((x : X) (more : List X) → form.Good (make h (xs ++ x ∷ more)) → ⊥) → Reads form (make h xs) here
-  chain_shut h xs here so none = record {
-    good = so.good;
-    only = λ s other after same g quiet e.
-        let t = c.taken other in
-        let g' = subst form.Good t.2 g in
-        let quiet' = subst (λ o. begins (form.extends o) after ≡ false) t.2 quiet in
-        let e' : (head.tokens h ++ flat_map items xs) ++ s ≡ (head.tokens t.0 ++ flat_map items t.1) ++ after =
-        sym (ap (λ l. l ++ s) (c.spelled h xs)) ∙ e ∙ ap (λ o. form.tokens o ++ after) t.2 ∙ ap (λ l. l ++ after) (c.spelled t.0 t.1) in
-        let found = so.only s t.0 t.1 after same g' quiet' e' in
-        let end = shut_more xs s h t.0 t.1 after none g' found.0 found.1 found.2 found.3 in
-        (t.2 ∙ end.0, end.1);
-  }
-
   pub head_refused : (before bad : List K) → Refuses head before bad → ((h : H) → head.Good h → form.Good (make h [])) →
       Refuses form before bad
   head_refused before bad r complete = record {

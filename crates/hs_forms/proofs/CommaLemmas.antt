@@ -2,18 +2,15 @@
 use Rattle.std.proofs.Common.{◌≡◌, ℕ, zero, suc, ◌+◌, ◌<◌, ◌≤◌, Bool, true, false, List, [], ◌∷◌, ◌++◌, length, refl}
 use Rattle.std.proofs.Common.{sym, ap, ◌∙◌, append_assoc, true≢false, arith, length-append}
 use Rattle.std.specs.Prelude.{replicate}
-use Rattle.hs_forms.specs.Reading.{begins, Reads, Refuses}
+use Rattle.hs_forms.specs.Reading.{begins, Reads}
 use Rattle.hs_forms.specs.Answers.{Accepts, Rejects}
 use Rattle.hs_forms.specs.Forms.{commas_form}
-use Rattle.hs_forms.proofs.FormLemmas.{begins_same}
+use Rattle.hs_forms.proofs.FormLemmas.{begins_same, uncons}
 
 module _ {K : Type 0} (comma shut : K) (is_comma is_shut : K → Bool) (comma_is : is_comma comma ≡ true)
     (shut_is : is_shut shut ≡ true) (apart : is_comma shut ≡ false) (bound : ℕ) where
   abbrev commas : ℕ → List K
   commas n = replicate n comma ++ shut ∷ []
-
-  uncons : (x : K) (xs ys : List K) → x ∷ xs ≡ x ∷ ys → xs ≡ ys
-  uncons x xs ys e = cc
 
   clash : (f : K → Bool) (xs ys : List K) → begins f ys ≡ true → xs ≡ ys → begins f xs ≡ false → ⊥
   clash f xs ys h e k = true≢false (sym h ∙ sym (ap (begins f) e) ∙ k)

@@ -1,7 +1,6 @@
 -- The front of a list of tokens, and forms behind a token, before one, and in a row.
 use Rattle.std.proofs.Common.{◌≡◌, Bool, true, false, List, [], ◌∷◌, ◌++◌, refl, sym, ap, ◌∙◌, subst, append_assoc}
 use Rattle.std.proofs.Common.{true≢false}
-use Rattle.std.proofs.lemmas.List.{append-nil}
 use Rattle.hs_forms.specs.Reading.{Form, SameStart, begins, Reads, Refuses}
 use Rattle.hs_forms.specs.Forms.{behind, closed, closed_if, Completes, pair, CompletesPair}
 
@@ -33,7 +32,8 @@ pub begins_same : {K : Type 0} → (f : K → Bool) (ts s : List K) → SameStar
 begins_same f [] s h = ap (begins f) h
 begins_same f (t ∷ ts) s h = ap (begins f) h.1
 
-uncons : {K : Type 0} (t : K) (xs ys : List K) → t ∷ xs ≡ t ∷ ys → xs ≡ ys
+-- lists alike behind one token
+pub uncons : {K : Type 0} (t : K) (xs ys : List K) → t ∷ xs ≡ t ∷ ys → xs ≡ ys
 uncons t xs ys e = cc
 
 pub reads_behind : {K T : Type 0} (t : K) (form : Form K T) (x : T) (rest : List K) → Reads form x rest →

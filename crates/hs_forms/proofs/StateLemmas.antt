@@ -1,5 +1,5 @@
 -- The loop of a chain's reader: what is known before each item, and what each way out answers.
-use Rattle.std.proofs.Common.{◌≡◌, ℕ, ◌+◌, ◌<◌, Bool, true, false, List, [], ◌∷◌, ◌++◌, length, refl, sym, ap, ◌∙◌}
+use Rattle.std.proofs.Common.{◌≡◌, ℕ, ◌+◌, ◌<◌, true, false, List, [], ◌∷◌, ◌++◌, length, refl, sym, ap, ◌∙◌}
 use Rattle.std.proofs.Common.{append_assoc, arith, length-append}
 use Rattle.std.specs.Prelude.{flat_map, map, max}
 use Rattle.std.proofs.lemmas.List.{append-nil}
@@ -11,7 +11,7 @@ use Rattle.hs_forms.specs.Forms.{item_form}
 use Rattle.hs_forms.specs.Productions.{Chain}
 use Rattle.hs_forms.specs.declared.fault.Fault.{Fault}
 use Rattle.hs_forms.specs.declared.fault.Fault.TheVariants.{At, NoMemory}
-use Rattle.hs_forms.proofs.ChainLemmas.{SoFar, chain_first, chain_step, chain_stop, chain_shut, chain_over}
+use Rattle.hs_forms.proofs.ChainLemmas.{SoFar, chain_first, chain_step, chain_stop, chain_over}
 use Rattle.hs_forms.proofs.ChainLemmas.{head_refused, item_refused}
 use Rattle.hs_forms.proofs.LimitLemmas.{deep_more}
 
@@ -78,17 +78,6 @@ module _ {K T H X : Type 0} (c : Chain K T H X) where
   state_stop depth ts h xs here d measured s ends is room = record {
     spelled = s.split ∙ ap (λ l. l ++ here) (sym (c.laws.spelled h xs));
     reads = chain_stop c.form c.head c.items c.item c.inner c.starter c.make c.laws h xs here s.so ends;
-    measured_is = is;
-    room = room;
-  }
-
-  -- no room for an item, whatever stands here
-  pub state_shut : (depth : T → ℕ) (ts : List K) (h : H) (xs : List X) (here : List K) (d measured : ℕ) →
-      State c ts h xs here d → (c.Room h xs → ⊥) → measured ≡ depth (c.make h xs) →
-      measured + length here < length ts → Accepts c.form depth ts (c.make h xs) here measured
-  state_shut depth ts h xs here d measured s none is room = record {
-    spelled = s.split ∙ ap (λ l. l ++ here) (sym (c.laws.spelled h xs));
-    reads = chain_shut c.form c.head c.items c.item c.inner c.starter c.make c.laws h xs here s.so (λ x more good. none (c.full h xs x more good));
     measured_is = is;
     room = room;
   }

@@ -3,20 +3,17 @@ use Rattle.std.proofs.Common.{◌≡◌, ℕ, zero, suc, ◌≤◌, Bool, true, 
 use Rattle.std.proofs.Common.{◌∙◌, subst, append_assoc, true≢false, arith, inl, inr, ◌⊎◌, length-append}
 use Rattle.std.specs.Prelude.{not, min}
 use Rattle.std.proofs.lemmas.List.{append-nil, append_cancel_left}
+use Rattle.std.proofs.lemmas.Bool.{not-false}
 use Rattle.hs_forms.specs.Reading.{Form, SameStart, begins, Reads, Refuses}
 use Rattle.hs_forms.specs.Answers.{Rejects}
 use Rattle.hs_forms.specs.Forms.{narrow, either}
 use Rattle.hs_forms.specs.Productions.{Onto}
 use Rattle.hs_forms.proofs.FormLemmas.{same_start_append, begins_within, begins_same}
 
-not_false : (b : Bool) → not b ≡ false → b ≡ true
-not_false true e = refl
-not_false false e = sym e
-
 module _ {K T : Type 0} (form : Form K T) (follow : K → Bool) (ends : (x : T) (t : K) → follow t ≡ true → form.extends x t ≡ false) where
   quiet_wide : (x : T) (after : List K) → begins (λ t. not (follow t)) after ≡ false →
       begins (form.extends x) after ≡ false
-  quiet_wide x after q = begins_within (λ t. not (follow t)) (form.extends x) after (λ t e. ends x t (not_false (follow t) e)) q
+  quiet_wide x after q = begins_within (λ t. not (follow t)) (form.extends x) after (λ t e. ends x t (not-false (follow t) e)) q
 
   pub reads_narrow : (x : T) (rest : List K) → Reads form x rest → Reads (narrow form follow) x rest
   reads_narrow x rest r = record {
@@ -85,20 +82,6 @@ module _ {K T U : Type 0} (one : Form K T) (two : Form K U) where
       let same' : SameStart bad (cut.0 ++ s) = subst (λ l. SameStart l (cut.0 ++ s)) (sym cut.2) (same_start_append cut.0 here s same) in
       r.never (cut.0 ++ s) u after same' good quiet
       (sym (append_assoc before cut.0 s) ∙ ap (λ l. l ++ s) (sym cut.1) ∙ e)
-
-  -- the first is read, and the second failed at its end or before
-  pub reads_first : (x : T) (rest before bad : List K) → Reads one x rest → one.tokens x ++ rest ≡ before ++ bad →
-      length before ≤ length (one.tokens x) → Refuses two before bad → Reads (either one two) (inl x) rest
-  reads_first x rest before bad r same_list le q = record {
-    good = r.good;
-    only = λ s other after same good quiet e. choose s other after same good quiet e;
-  }
-    where
-      choose : (s : List K) (other : T ⊎ U) (after : List K) → SameStart rest s → (either one two).Good other →
-          begins ((either one two).extends other) after ≡ false → one.tokens x ++ s ≡ (either one two).tokens other ++ after →
-          (other ≡ inl x) × (after ≡ s)
-      choose s (inl y) after same good quiet e = let found = r.only s y after same good quiet e in (ap inl found.0, found.1)
-      choose s (inr u) after same good quiet e = absurd (dead (one.tokens x) rest before bad s u after same_list le q same good quiet e)
 
   -- both failed, the first no earlier
   pub refuses_first : (before bad before' bad' : List K) → Refuses one before bad → Refuses two before' bad' →
@@ -223,16 +206,6 @@ rejects_later {K} {T} {U} one two ts l m r q = decide (total l m)
           (refuses_first two one q.before q.bad r.before r.bad q.refuses r.refuses (sym q.split ∙ r.split)
           (omega (arith, r.left_is, q.left_is, ap length r.split, ap length q.split, length-append r.before r.bad, length-append q.before q.bad)));
     }
-
-pub rejects_by : {K T U : Type 0} (one : Form K T) (two : Form K U) (ts : List K) (left : ℕ) → Rejects one ts left →
-    ((before bad : List K) → Refuses one before bad → Refuses two before bad) → Rejects two ts left
-rejects_by one two ts left r f = record {
-  before = r.before;
-  bad = r.bad;
-  split = r.split;
-  left_is = r.left_is;
-  refuses = f r.before r.bad r.refuses;
-}
 
 -- A refusal stands behind tokens that begin a tree.
 pub refuses_later : {K T : Type 0} (form : Form K T) (before bad front : List K) (k : K) (tail more : List K) (x : T) →

@@ -1,8 +1,8 @@
 -- Productions behind a fixed front, or known by their first token.
-use Rattle.std.proofs.Common.{◌≡◌, ◌<◌, Bool, true, false, List, [], ◌∷◌, ◌++◌, refl, sym, ap, ◌∙◌, subst, append_assoc}
+use Rattle.std.proofs.Common.{◌≡◌, Bool, true, false, List, [], ◌∷◌, ◌++◌, refl, sym, ap, ◌∙◌, subst, append_assoc}
 use Rattle.std.proofs.Common.{true≢false}
 use Rattle.std.proofs.lemmas.List.{append_cancel_left}
-use Rattle.hs_forms.specs.Reading.{Form, SameStart, begins, Reads, Refuses}
+use Rattle.hs_forms.specs.Reading.{Form, begins, Reads, Refuses}
 use Rattle.hs_forms.specs.Forms.{leaf}
 use Rattle.hs_forms.specs.Productions.{Leads, Variant}
 use Rattle.hs_forms.proofs.FormLemmas.{same_start_append, begins_within, begins_same, begins_append}

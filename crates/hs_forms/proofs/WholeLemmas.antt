@@ -50,12 +50,6 @@ module _ {K T : Type 0} (form : Form K T) where
   whole_of_fails ts (f.At left) r = place_of_rejects ts left r
   whole_of_fails ts f.NoMemory r = tt
 
-  pub whole_of_all : (depth : T → ℕ) (ts : List K) (tree : T) (rest : List K) (d : ℕ) →
-      Accepts form depth ts tree rest d →
-      length rest ≡ 0 → Spells form tree ts
-  whole_of_all depth ts tree [] d acc e = (acc.spelled ∙ append-nil (form.tokens tree), acc.reads.good)
-  whole_of_all depth ts tree (x ∷ rest) d acc e = absurd (omega arith)
-
   no_rest : (tree other : T) (rest s : List K) → 0 < length rest → SameStart rest s → [] ≡ s → ⊥
   no_rest tree other [] s some same e = absurd (omega arith)
   no_rest tree other (x ∷ rest) s some same e = let long = ap length (e ∙ same.1) in absurd (omega arith)

@@ -1,5 +1,5 @@
 -- How kinds are read or refused.
-use Rattle.std.proofs.Common.{◌≡◌, ℕ, ◌+◌, Bool, true, false, List, [], ◌∷◌, ◌++◌, length, refl, sym, ap, ◌∙◌, subst, append_assoc, true≢false, arith, length-append}
+use Rattle.std.proofs.Common.{◌≡◌, ℕ, ◌+◌, true, false, List, [], ◌∷◌, ◌++◌, length, refl, sym, ap, ◌∙◌, subst, append_assoc, true≢false, arith, length-append}
 use Rattle.std.specs.Prelude.{flat_map, map, max, Option}
 use Rattle.std.proofs.lemmas.Slice.Eq.{bytes_eq-Decides}
 use Rattle.std.proofs.lemmas.List.Folds.{flat_map-map}
@@ -14,8 +14,8 @@ use Rattle.hs_forms.specs.declared.fault.Fault.{Fault}
 use Rattle.hs_trees.specs.declared.types.AKindTree.{AKindTree, AKindTree-F, out-AKindTree, roll-AKindTree, roll-out-AKindTree, fold-roll-AKindTree, map-AKindTree}
 use Rattle.hs_trees.specs.declared.types.AKindTree.TheVariants as a
 use Rattle.hs_trees.specs.declared.types.KindTree.{KindTree, KindTree-F, out-KindTree, roll-KindTree, roll-out-KindTree, fold-roll-KindTree}
-use Rattle.hs_forms.proofs.FormLemmas.{begins_same, reads_closed, refuses_closed, reads_behind, refuses_behind}
-use Rattle.hs_forms.specs.Forms.{closed, behind}
+use Rattle.hs_forms.proofs.FormLemmas.{begins_same, reads_closed, refuses_closed}
+use Rattle.hs_forms.specs.Forms.{closed}
 use Rattle.hs_forms.proofs.LimitLemmas.{within_less, within_lowered, within_raised, within_zero, within_max, deep_here, deep_front, deep_more}
 use Rattle.hs_forms.specs.Productions.{Chain}
 use Rattle.hs_forms.proofs.StateLemmas.{fails_after}

@@ -1,5 +1,5 @@
 -- At most one kind is spelled by a list of tokens, whatever its depth.
-use Rattle.std.proofs.Common.{◌≡◌, ℕ, zero, suc, ◌+◌, ◌≤◌, false, List, [], ◌∷◌, ◌++◌, length, refl, sym, ap, ◌∙◌, subst, arith, length-append, le_refl}
+use Rattle.std.proofs.Common.{◌≡◌, ℕ, zero, suc, ◌+◌, ◌≤◌, false, [], ◌∷◌, ◌++◌, length, refl, sym, ap, ◌∙◌, subst, arith, length-append, le_refl}
 use Rattle.std.specs.Prelude.{flat_map, None}
 use Rattle.hs_forms.specs.Reading.{begins, Reads}
 use Rattle.hs_forms.specs.Whole.{Spells}

@@ -6,7 +6,7 @@ use Rattle.std.proofs.lemmas.Bool.Decides.{nat_tests}
 use Rattle.hs_forms.specs.Reading.{SameStart, begins, Reads, Refuses}
 use Rattle.hs_forms.specs.Limits.{Within, lowered}
 use Rattle.hs_forms.specs.Answers.{Accepts, Rejects, Fails}
-use Rattle.hs_tokens.specs.Terminals.{is_at, is_comma, is_integer, is_right_paren, is_con}
+use Rattle.hs_tokens.specs.Terminals.{is_at, is_integer, is_right_paren, is_con}
 use Rattle.hs_trees.specs.Types.{tuple_name_form, starts_tuple_name}
 use Rattle.hs_trees.specs.Patterns.{Ts, literal_token, var_tokens, gcon_tokens, named_con, spelling_apat, is_gcon, is_apat, depth_of_apat, starts_apat, starts_pat, opens_name, apat_form, Pats}
 use Rattle.hs_tokens.specs.declared.terminal.Terminal.{Terminal}

@@ -5,6 +5,7 @@ use Rattle.std.specs.Str.{bytes_eq}
 use Rattle.std.proofs.lemmas.Slice.Eq.{bytes_eq-Decides}
 use Rattle.std.proofs.lemmas.List.{append-nil}
 use Rattle.std.proofs.lemmas.Bool.Decides.{nat_tests}
+use Rattle.std.proofs.lemmas.Bool.{cases_Bool}
 use Rattle.hs_forms.specs.Reading.{Form, SameStart, begins, Reads, Refuses}
 use Rattle.hs_forms.specs.Limits.{Within, lowered}
 use Rattle.hs_forms.specs.Answers.{Accepts, Rejects, Fails}
@@ -66,10 +67,6 @@ minus_shape (t.ConSym n ∷ tail) h k = absurd (true≢false (sym k))
 minus_shape (t.Colon ∷ tail) h k = absurd (true≢false (sym k))
 minus_shape (_ ∷ tail) h k = absurd (true≢false (sym h))
 
-either_bool : (b : Bool) → (b ≡ true) ⊎ (b ≡ false)
-either_bool true = inl refl
-either_bool false = inr refl
-
 opens_starts : (ts : Ts) → opens_pat ts ≡ true → begins opens_name ts ≡ true → starts_pat ts ≡ true
 opens_starts ts h e = force (begins opens_name ts) h e
   where
@@ -104,7 +101,7 @@ module _ (limit : Option ℕ) where
   -- no name in brackets goes on where patterns are refused
   inside_no_name : (ts before bad s : Ts) → opens_pat ts ≡ true → ts ≡ before ++ bad → Refuses round before bad → SameStart bad s →
       is_name (before ++ s) ≡ false
-  inside_no_name ts before bad s opens split r same = decide (either_bool (begins opens_name ts))
+  inside_no_name ts before bad s opens split r same = decide (cases_Bool (begins opens_name ts))
     where
       decide : (begins opens_name ts ≡ true) ⊎ (begins opens_name ts ≡ false) → is_name (before ++ s) ≡ false
       decide (inr not_) =

@@ -17,7 +17,7 @@ use Rattle.hs_trees.specs.declared.patterns.GConTree.{GConTree}
 use Rattle.hs_trees.specs.declared.patterns.GConTree.TheVariants as g
 use Rattle.hs_trees.specs.declared.patterns.APatTree.{APatTree, APatTree-F, out-APatTree, roll-APatTree, roll-out-APatTree}
 use Rattle.hs_trees.specs.declared.patterns.APatTree.TheVariants as a
-use Rattle.hs_forms.proofs.LimitLemmas.{and_left, and_right}
+use Rattle.hs_forms.proofs.LimitLemmas.{and_right}
 use Rattle.hs_trees.proofs.TypeLayers.{length_of_map}
 use Rattle.hs_trees.proofs.PatternLayers.{ALayer, apat_layer_tokens, apat_spelled, apat_deep, apat_is, pat_starts, starts_pat_append}
 

@@ -8,7 +8,6 @@ use Rattle.hs_forms.specs.Limits.{Within}
 use Rattle.hs_forms.specs.Answers.{Accepts, Rejects, Fails}
 use Rattle.hs_tokens.specs.Terminals.{is_at, is_integer, is_minus, minus}
 use Rattle.hs_trees.specs.Patterns.{Ts, gcon_tokens, spelling_apat, spelling_lpat, is_gcon, is_apat, is_lpat, depth_of_apat, depth_of_lpat, starts_apat, APats, spelling_apats, depth_of_apats, are_apats, apat_form, apats_form, lpat_form}
-use Rattle.hs_tokens.specs.declared.terminal.Terminal.{Terminal}
 use Rattle.hs_tokens.specs.declared.terminal.Terminal.TheVariants as t
 use Rattle.hs_forms.specs.declared.fault.Fault.{Fault}
 use Rattle.hs_trees.specs.declared.patterns.GConTree.{GConTree}
@@ -22,6 +21,7 @@ use Rattle.hs_forms.proofs.LimitLemmas.{within_zero, and_left, and_right, or_lef
 use Rattle.hs_forms.proofs.StateLemmas.{fails_after}
 use Rattle.hs_trees.proofs.PatternLayers.{LLayer, apat_starts, lpat_spelled, lpat_is, lpat_deep}
 use Rattle.hs_trees.proofs.PatternCases.{con_spelled, con_is}
+use Rattle.hs_trees.proofs.PatternChains.{apat_apart}
 use Rattle.hs_trees.proofs.PatternAtoms.{con_good, clash}
 
 -- the three productions
@@ -90,24 +90,12 @@ con_of = fold-APatTree (Option GConTree) (Unit {0}) (Unit {0}) (Unit {0}) con_la
 apats_start : (p : APats) (after : Ts) → begins starts_apat (spelling_apats p ++ after) ≡ true
 apats_start p after = begins_append starts_apat (spelling_apats p) after (begins_append starts_apat (spelling_apat p.0) _ (apat_starts p.0))
 
-at_apart : (k : Terminal) → starts_apat k ≡ true → is_at k ≡ false
-at_apart t.At h = absurd (true≢false (sym h))
-at_apart _ h = refl
-
 start_quiet : (xs : Ts) → begins starts_apat xs ≡ true → begins is_at xs ≡ false
 start_quiet [] h = refl
-start_quiet (k ∷ xs) h = at_apart k h
+start_quiet (k ∷ xs) h = apat_apart k h
 
 minus_is : is_minus (t.VarSym minus) ≡ true
 minus_is = (bytes_eq-Decides minus minus).1 refl
-
-minus_start : (k : Terminal) → starts_apat k ≡ true → is_minus k ≡ false
-minus_start (t.VarSym n) h = absurd (true≢false (sym h))
-minus_start _ h = refl
-
-start_no_minus : (xs : Ts) → begins starts_apat xs ≡ true → begins is_minus xs ≡ false
-start_no_minus [] h = refl
-start_no_minus (k ∷ xs) h = minus_start k h
 
 module _ (limit : Option ℕ) where
   quiet_at : (after : Ts) → begins (λ k. starts_apat k || is_at k) after ≡ false → begins is_at after ≡ false

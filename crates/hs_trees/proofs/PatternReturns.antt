@@ -1,31 +1,29 @@
 -- The loops of the readers of patterns, over plain variables.
 use Rattle.std.proofs.Common.{◌≡◌, ℕ, ◌+◌, ◌<◌, Bool, true, false, List, [], ◌∷◌, ◌++◌, length, refl, sym, ap, ◌∙◌, subst, append_assoc, true≢false, arith, length-append}
-use Rattle.std.specs.Prelude.{map, max, not, ◌||◌, Option}
+use Rattle.std.specs.Prelude.{not, ◌||◌, Option}
 use Rattle.hs_forms.specs.Reading.{Form, begins, Reads, Refuses}
-use Rattle.hs_forms.specs.Limits.{Within, lowered, deepest}
+use Rattle.hs_forms.specs.Limits.{Within, lowered}
 use Rattle.hs_forms.specs.Answers.{Accepts, Rejects, Fails}
-use Rattle.hs_tokens.specs.Terminals.{is_at, is_comma, is_con, is_backquote, is_minus, starts_qconop}
+use Rattle.hs_tokens.specs.Terminals.{is_at, is_con, is_backquote, is_minus, starts_qconop}
 use Rattle.hs_trees.specs.Types.{starts_tuple_name}
-use Rattle.hs_trees.specs.Patterns.{Ts, qconop_tokens, spelling_lpat, spelling_op, is_lpat, depth_of_apat, depth_of_lpat, depth_of_op, depth_of_pat, starts_apat, starts_lpat, starts_pat, opens_name, opens_pat, depth_of_apats, depth_of_pats, apat_form, apats_form, lpat_form, pat_form, pats_form, qconop_form}
+use Rattle.hs_trees.specs.Patterns.{Ts, qconop_tokens, spelling_lpat, spelling_op, is_lpat, depth_of_lpat, depth_of_op, starts_apat, starts_lpat, starts_pat, opens_name, opens_pat, lpat_form, qconop_form}
 use Rattle.hs_tokens.specs.declared.terminal.Terminal.{Terminal}
 use Rattle.hs_tokens.specs.declared.terminal.Terminal.TheVariants as t
 use Rattle.hs_forms.specs.declared.fault.Fault.{Fault}
 use Rattle.hs_trees.specs.declared.patterns.QConOpTree.{QConOpTree}
 use Rattle.hs_trees.specs.declared.patterns.QConOpTree.TheVariants as o
-use Rattle.hs_trees.specs.declared.patterns.APatTree.{APatTree}
 use Rattle.hs_trees.specs.declared.patterns.LPatTree.{LPatTree, LPatTree-F}
 use Rattle.hs_trees.specs.declared.patterns.LPatTree.TheVariants as lp
 use Rattle.hs_trees.specs.declared.patterns.OpLPat.{OpLPat, out-OpLPat, roll-OpLPat, roll-out-OpLPat}
-use Rattle.hs_trees.specs.declared.patterns.PatTree.{PatTree}
-use Rattle.hs_forms.specs.Forms.{item_form, behind, pair}
-use Rattle.hs_forms.proofs.FormLemmas.{reads_behind, refuses_behind, begins_same, reads_pair, completes_pair, pair_first, pair_second}
+use Rattle.hs_forms.specs.Forms.{item_form, pair}
+use Rattle.hs_forms.proofs.FormLemmas.{begins_same, reads_pair, completes_pair, pair_first, pair_second}
 use Rattle.hs_forms.proofs.LimitLemmas.{within_zero}
 use Rattle.hs_forms.proofs.StateLemmas.{fails_after}
 use Rattle.hs_forms.proofs.VariantLemmas.{none_refused}
 use Rattle.hs_forms.specs.Productions.{Onto}
 use Rattle.hs_forms.proofs.UnionLemmas.{reads_onto, refuses_onto}
-use Rattle.hs_trees.proofs.PatternLayers.{PLayer, OLayer, qconop_starts, lpat_starts, lpat_is, lpat_deep, op_spelled, op_is, op_deep, pat_deep}
-use Rattle.hs_trees.proofs.PatternChains.{make_pat, apats_chain, pat_chain, pats_chain, pat_item}
+use Rattle.hs_trees.proofs.PatternLayers.{OLayer, qconop_starts, lpat_starts, lpat_is, lpat_deep, op_spelled, op_is, op_deep}
+use Rattle.hs_trees.proofs.PatternChains.{pat_item}
 
 abbrev pub make_op : QConOpTree → LPatTree → OpLPat
 make_op op x = roll-OpLPat (record { op = op; pat = x })

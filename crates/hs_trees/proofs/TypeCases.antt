@@ -11,7 +11,7 @@ use Rattle.hs_tokens.specs.declared.terminal.Terminal.TheVariants as t
 use Rattle.hs_trees.specs.declared.types.ATypeTree.{ATypeTree, ATypeTree-F, out-ATypeTree, roll-ATypeTree, roll-out-ATypeTree, map-ATypeTree}
 use Rattle.hs_trees.specs.declared.types.ATypeTree.TheVariants as a
 use Rattle.hs_trees.specs.declared.types.TypeTree.{TypeTree}
-use Rattle.hs_forms.proofs.LimitLemmas.{within_zero, and_left, and_right}
+use Rattle.hs_forms.proofs.LimitLemmas.{within_zero, and_right}
 use Rattle.hs_trees.proofs.TypeLayers.{ALayer, atype_spelled, atype_deep, atype_is, length_of_map}
 
 pub parts_spelled : (p : Parts) → spelling_atype (a.Parts p.0 p.1) ≡ t.LeftParen ∷ (spelling_parts p ++ t.RightParen ∷ [])

@@ -1,20 +1,19 @@
 -- The returns of the readers of types, over plain variables.
-use Rattle.std.proofs.Common.{◌≡◌, ℕ, ◌+◌, ◌<◌, Bool, true, false, List, [], ◌∷◌, ◌++◌, length, refl, sym, ap, ◌∙◌, subst, append_assoc, arith}
-use Rattle.std.specs.Prelude.{map, max, nat_lt, Option}
+use Rattle.std.proofs.Common.{◌≡◌, ℕ, ◌+◌, Bool, true, false, List, [], ◌∷◌, ◌++◌, length, refl, sym, ap, ◌∙◌, subst, append_assoc, arith}
+use Rattle.std.specs.Prelude.{Option}
 use Rattle.hs_forms.specs.Reading.{begins, Reads}
-use Rattle.hs_forms.specs.Limits.{Within, lowered, deepest}
+use Rattle.hs_forms.specs.Limits.{Within, lowered}
 use Rattle.hs_forms.specs.Answers.{Accepts, Rejects, Fails}
-use Rattle.hs_trees.specs.Types.{starts_atype, spelling_atype, spelling_type, depth_of_atype, depth_of_btype, depth_of_type, depth_of_parts, Parts, atype_form, btype_form, type_form, parts_form, tuple_name_form, named_type, starts_tuple_name}
-use Rattle.hs_tokens.specs.Terminals.{is_arrow, is_comma, is_right_paren, is_right_bracket}
+use Rattle.hs_trees.specs.Types.{starts_atype, spelling_atype, spelling_type, depth_of_atype, depth_of_type, depth_of_parts, Parts, atype_form, type_form, parts_form, tuple_name_form, named_type, starts_tuple_name}
+use Rattle.hs_tokens.specs.Terminals.{is_arrow, is_right_paren, is_right_bracket}
 use Rattle.hs_tokens.specs.declared.terminal.Terminal.{Terminal}
 use Rattle.hs_tokens.specs.declared.terminal.Terminal.TheVariants as t
 use Rattle.hs_forms.specs.declared.fault.Fault.{Fault}
-use Rattle.hs_trees.specs.declared.types.ATypeTree.{ATypeTree, ATypeTree-F}
+use Rattle.hs_trees.specs.declared.types.ATypeTree.{ATypeTree-F}
 use Rattle.hs_trees.specs.declared.types.ATypeTree.TheVariants as a
-use Rattle.hs_trees.specs.declared.types.BTypeTree.{BTypeTree}
 use Rattle.hs_trees.specs.declared.types.TypeTree.{TypeTree}
 use Rattle.hs_forms.proofs.FormLemmas.{reads_closed, refuses_closed, closing_missed}
-use Rattle.hs_trees.proofs.TypeLayers.{BLayer, Layer, btype_deep, type_deep, atype_spelled, atype_deep}
+use Rattle.hs_trees.proofs.TypeLayers.{atype_spelled, atype_deep}
 use Rattle.hs_trees.proofs.TypeCases.{parts_spelled, parts_deep, list_spelled, list_deep, con_read, var_read}
 use Rattle.hs_trees.proofs.TypeBrackets.{ends_name, named_spelled, named_deep, arrow_read, arrow_spelled, tuple_read, parts_read, list_con_read, list_con_spelled, list_read, none_refused, arrow_refused, tuple_refused, parts_refused, paren_over, list_refused, bracket_over}
 use Rattle.hs_forms.proofs.StateLemmas.{fails_after}

@@ -1,5 +1,5 @@
 -- Each step of the loop is a lemma of `StateLemmas`.
-use Rattle.std.proofs.Common.{arith, ◌≡◌, ◌∙◌, sym, subst, true≢false, length}
+use Rattle.std.proofs.Common.{arith, ◌∙◌, sym, subst, true≢false}
 use Rattle.std.proofs.lemmas.Result.{err_from_is_err_and}
 use Rattle.hs_forms.specs.Answers.{Fails, Accepts}
 use Rattle.hs_forms.specs.Forms.{item_form}

@@ -1,8 +1,7 @@
 -- Each return is a lemma of the pattern modules of `hs_trees`, and each step of a loop.
-use Rattle.std.proofs.Common.{◌+◌, ◌∷◌, ◌∙◌, refl, sym, ap, subst, true≢false, arith}
+use Rattle.std.proofs.Common.{◌∷◌, ◌∙◌, refl, sym, ap, subst, true≢false, arith}
 use Rattle.std.proofs.lemmas.Result.{err_from_is_err_and}
 use Rattle.hs_forms.specs.Reading.{begins}
-use Rattle.hs_forms.specs.Limits.{Within, lowered}
 use Rattle.hs_forms.specs.Answers.{Accepts, Rejects}
 use Rattle.hs_trees.specs.Types.{starts_tuple_name}
 use Rattle.hs_trees.specs.Patterns.{starts_apat, opens_name, apat_form, depth_of_apat, pat_sort}
