@@ -1,6 +1,6 @@
 //! Sources of the plain form, with what becomes of them.
 
-pub const ONE: &[u8] =
+const ONE: &[u8] =
     b"module U0.M (U0.M.x) where {\nimport qualified Prelude;\nx :: Prelude.Int;\nx = 1;\n}\n";
 
 const EMPTY: &[u8] = b"module U0.M () where {\nimport qualified Prelude;\n}\n";
@@ -13,8 +13,20 @@ a :: Prelude.Int;\n\
 a = U0.M.f 9223372036854775807;\n\
 }\n";
 
+const APPLIED: &[u8] = b"module U0.M (U0.M.f, U0.M.g) where {\n\
+import qualified Prelude;\n\
+g :: Prelude.Int;\n\
+g = U0.M.f 2;\n\
+f :: Prelude.Int -> Prelude.Int;\n\
+f a = a;\n\
+}\n";
+
 /// Sources with the flat texts of what they spell.
-pub const SPELLED: [(&[u8], &[u8]); 6] = [
+pub const SPELLED: [(&[u8], &[u8]); 7] = [
+    (
+        b"module M where { g :: Int; g = f 2; f :: Int -> Int; f a = a; }",
+        APPLIED,
+    ),
     (b"module M where {\nx :: Int;\nx = 1\n}\n", ONE),
     (b"module M where{x::Int;x=1;}", ONE),
     (b"\n module\nM where { x::Int ; x = 001 } \n", ONE),
@@ -53,30 +65,61 @@ pub const REFUSED: [&[u8]; 20] = [
     b"module M where { x :: Int->Int->Int->Int->Int->Int->Int->Int->Int->Int->Int->Int->Int->Int->Int->Int->Int->Int; x = x }",
 ];
 
-/// Sources whose values have their declared types, or with the first value that has not its own, empty where there is none.
+/// Sources with the notes on them: none where each value has its declared type, else on the first that has not.
 pub const TYPED: [(&[u8], &[u8]); 9] = [
     (b"module M where { x :: Int; x = 1 }", b""),
-    (b"module M where { x :: Int; x = x 1 }", b"x"),
-    (b"module M where { x :: Int; x a = 1 }", b"x"),
+    (
+        b"module M where { x :: Int; x = x 1 }",
+        b"refused 28 IllTyped one M x\n",
+    ),
+    (
+        b"module M where { x :: Int; x a = 1 }",
+        b"refused 28 IllTyped one M x\n",
+    ),
     (
         b"module M where { f :: Int -> Int; f a = a; x :: Int; x = f 1 }",
         b"",
     ),
     (
         b"module M where { f :: Int -> Int; f = f; x :: Int; x = f }",
-        b"x",
+        b"refused 28 IllTyped one M x\n",
     ),
     (
         b"module M where { f :: Int -> Int -> Int; f a = g 1; g :: Int -> Int; g a = f a a }",
-        b"f",
+        b"refused 28 IllTyped one M f\n",
     ),
     (
         b"module M where { f :: Int -> Int -> Int; f a = g; g :: Int -> Int; g a = f a a }",
         b"",
     ),
-    (b"module M where { f :: Int -> Int; f a = f f }", b"f"),
+    (
+        b"module M where { f :: Int -> Int; f a = f f }",
+        b"refused 28 IllTyped one M f\n",
+    ),
     (
         b"module M where { f :: Int -> Int; f a = a 1; x :: Int; x = x 1 }",
-        b"f",
+        b"refused 28 IllTyped one M f\n",
+    ),
+];
+
+/// Targets, sources and how many of the three files are there, with the status and the note.
+pub const REFUSALS: [(&[u8], &[u8], usize, u8, &[u8]); 6] = [
+    (b"one", b"", 0, 1, b"refused 6 NoSource - - cabal.project\n"),
+    (b"one", b"", 1, 1, b"refused 6 NoSource - - one/one.cabal\n"),
+    (b"one", b"", 2, 1, b"refused 6 NoSource one M one/M.hs\n"),
+    (b"two", b"", 3, 1, b"refused 3 NoComponent - - two\n"),
+    (
+        b"one",
+        b"module M where { x = 1 }",
+        3,
+        1,
+        b"refused 10 Syntax one M 0\n",
+    ),
+    (
+        b"",
+        b"",
+        3,
+        2,
+        b"usage: backpack build|check|link|show|units NAME or sample N\n",
     ),
 ];
