@@ -103,7 +103,7 @@ symbol_len-sound : (text : List ℕ) → 0 < symbol_len text → is_symbol (take
 symbol_len-sound [] h = absurd (omega arith)
 symbol_len-sound (b ∷ bs) h = grind (arith, common_steps, nat_tests)
 
-and_both : {a b : Bool} → a ≡ true → b ≡ true → a && b ≡ true
+pub and_both : {a b : Bool} → a ≡ true → b ≡ true → a && b ≡ true
 and_both {a} {b} p q = rw (p, q) refl
 
 nonempty : (text : List ℕ) → starts_word text ≡ true → 0 < length text

@@ -6,6 +6,7 @@ use Rattle.std.specs.Fmt.{decimal}
 use Rattle.std.proofs.lemmas.Fmt.{decimal_by_steps}
 use Rattle.std.proofs.lemmas.Bool.Decides.{nat_tests}
 use Rattle.std.proofs.lemmas.Bool.{and_parts, eqb-true}
+use Rattle.backpack_run.proofs.Lexing.{and_both}
 use Rattle.bp_base.specs.Lists.{AreDistinct}
 use Rattle.bp_base.proofs.Texts.{same_texts}
 use Rattle.backpack_run.specs.Characters.{is_lower, is_upper, is_digit, is_word_char, is_blank, is_text, is_module_name, is_variable_name}
@@ -29,9 +30,6 @@ Tokens = List (List ℕ)
 or_right : (a : Bool) → a || true ≡ true
 or_right true = refl
 or_right false = refl
-
-and_both : {a b : Bool} → a ≡ true → b ≡ true → a && b ≡ true
-and_both {a} {b} p q = rw (p, q) refl
 
 equal_number : (x : ℕ) → (x == x) ≡ true
 equal_number x = grind (arith, nat_tests)

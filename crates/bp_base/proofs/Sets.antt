@@ -1,5 +1,6 @@
 -- Lists as sets: what stands in them, and lists in which no item stands twice.
-use Rattle.std.proofs.Common.{◌≡◌, ◌⊎◌, inl, inr, refl, sym, ap, subst, Bool, true, false, ◌||◌, List, [], ◌∷◌, ◌++◌, map}
+use Rattle.std.proofs.Common.{◌≡◌, ◌⊎◌, inl, inr, refl, sym, ap, subst, Bool, true, false, ◌||◌, List, [], ◌∷◌, ◌++◌}
+use Rattle.std.proofs.Common.{map}
 use Rattle.std.specs.Str.{bytes_eq}
 use Rattle.bp_base.specs.Texts.{Text}
 use Rattle.bp_base.specs.Lists.{Among, AreDistinct, is_among}
@@ -50,7 +51,8 @@ among-map f a (x ∷ xs) (inl e) = inl (ap f e)
 among-map f a (x ∷ xs) (inr h) = inr (among-map f a xs h)
 
 -- what stands in a list of images is the image of something
-pub among-image : {A B : Type 0} (f : A → B) (b : B) (xs : List A) → Among b (map f xs) → (a : A) × Among a xs × (f a ≡ b)
+pub among-image : {A B : Type 0} (f : A → B) (b : B) (xs : List A) → Among b (map f xs)
+    → (a : A) × Among a xs × (f a ≡ b)
 among-image f b [] h = absurd h
 among-image f b (x ∷ xs) (inl e) = (x, inl refl, e)
 among-image f b (x ∷ xs) (inr h) = let i = among-image f b xs h in (i.0, inr i.1, i.2)
@@ -66,17 +68,22 @@ distinct-right (x ∷ xs) ys d = distinct-right xs ys d.1
 -- nothing stands in both of two lists that are distinct one after the other
 pub distinct-cross : {A : Type 0} (a : A) (xs ys : List A) → AreDistinct (xs ++ ys) → Among a xs → Among a ys → ⊥
 distinct-cross a [] ys d h k = h
-distinct-cross {A} a (x ∷ xs) ys d (inl e) k = d.0 (subst (λ (z : A). Among z (xs ++ ys)) (sym e) (among-right a xs ys k))
+distinct-cross {A} a (x ∷ xs) ys d (inl e) k = d.0
+    (subst (λ (z : A). Among z (xs ++ ys)) (sym e) (among-right a xs ys k))
 distinct-cross a (x ∷ xs) ys d (inr h) k = distinct-cross a xs ys d.1 h k
 
-pub distinct-join : {A : Type 0} (xs ys : List A) → AreDistinct xs → AreDistinct ys → ((a : A) → Among a xs → Among a ys → ⊥) → AreDistinct (xs ++ ys)
+pub distinct-join : {A : Type 0} (xs ys : List A) → AreDistinct xs → AreDistinct ys
+    → ((a : A) → Among a xs → Among a ys → ⊥) → AreDistinct (xs ++ ys)
 distinct-join [] ys d e f = e
-distinct-join {A} (x ∷ xs) ys d e f =
-    (λ h. elim (among-either x xs ys h) [ inl k ↦ d.0 k | inr k ↦ f x (inl refl) k ], distinct-join xs ys d.1 e (λ (a : A) h k. f a (inr h) k))
+distinct-join {A} (x ∷ xs) ys d e f = (
+  λ h. elim (among-either x xs ys h) [ inl k ↦ d.0 k | inr k ↦ f x (inl refl) k ],
+  distinct-join xs ys d.1 e (λ (a : A) h k. f a (inr h) k),
+)
 
 -- one more that was not there
 pub distinct-push : {A : Type 0} (xs : List A) (x : A) → AreDistinct xs → (Among x xs → ⊥) → AreDistinct (xs ++ x ∷ [])
-distinct-push {A} xs x d n = distinct-join xs (x ∷ []) d (λ h. h, tt) (λ (a : A) h k. elim k [ inl e ↦ n (subst (λ (y : A). Among y xs) (sym e) h) | inr none ↦ none ])
+distinct-push {A} xs x d n = distinct-join xs (x ∷ []) d (λ h. h, tt)
+    (λ (a : A) h k. elim k [ inl e ↦ n (subst (λ (y : A). Among y xs) (sym e) h) | inr none ↦ none ])
 
 -- what stands before stands twice
 pub distinct-twice : {A : Type 0} (xs ys : List A) (x : A) → Among x xs → AreDistinct (xs ++ x ∷ ys) → ⊥

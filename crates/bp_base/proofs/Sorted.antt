@@ -1,5 +1,6 @@
 -- Texts have one order: of two sorted lists with the same texts each is the other.
-use Rattle.std.proofs.Common.{◌≡◌, ℕ, suc, ◌+◌, ◌<◌, Bool, true, false, List, [], ◌∷◌, length, get_or, refl, sym, ap, ◌∙◌, subst, arith}
+use Rattle.std.proofs.Common.{◌≡◌, ℕ, suc, ◌+◌, ◌<◌, Bool, true, false, List, [], ◌∷◌, length, get_or, refl, sym, ap}
+use Rattle.std.proofs.Common.{◌∙◌, subst, arith}
 use Rattle.std.specs.Prelude.{if◌then◌else◌, IsPermutation, IsSorted}
 use Rattle.std.specs.List.{sum_by}
 use Rattle.std.specs.Str.{bytes_eq}
@@ -47,7 +48,8 @@ found : (a : Text) (xs : List Text) → 0 < times a xs → (j : ℕ) × (j < len
 found a [] h = absurd (omega (arith, h))
 found a (x ∷ xs) h = go (bytes_eq a x) refl (λ l. found a xs l)
   where
-    go : (b : Bool) → bytes_eq a x ≡ b → (0 < times a xs → (j : ℕ) × (j < length xs) × (get_or xs j [] ≡ a)) → (j : ℕ) × (j < length (x ∷ xs)) × (get_or (x ∷ xs) j [] ≡ a)
+    go : (b : Bool) → bytes_eq a x ≡ b → (0 < times a xs → (j : ℕ) × (j < length xs) × (get_or xs j [] ≡ a))
+        → (j : ℕ) × (j < length (x ∷ xs)) × (get_or (x ∷ xs) j [] ≡ a)
     go true e further = (0, omega arith, sym (same_texts a x e))
     go false e further =
         let none : hit a x ≡ 0 = rw e refl in
@@ -73,7 +75,8 @@ neither y z p q = go (slice_cmp nat_cmp y z) refl
 rest_sorted : (y : Text) (ys : List Text) → AreSorted (y ∷ ys) → AreSorted ys
 rest_sorted y ys s = λ k d l h.
     let next : suc k + 1 ≡ suc (k + 1) = omega arith in
-    subst (λ (n : ℕ). below (get_or (y ∷ ys) n d) (get_or ys k d) ≡ false) next (s (suc k) d (omega arith) (omega (arith, h)))
+    subst (λ (n : ℕ). below (get_or (y ∷ ys) n d) (get_or ys k d) ≡ false) next
+    (s (suc k) d (omega arith) (omega (arith, h)))
 
 one_sorted : (ys zs : List Text) → AreSorted ys → AreSorted zs → ((a : Text) → times a ys ≡ times a zs) → ys ≡ zs
 one_sorted [] [] s t h = refl
@@ -88,5 +91,7 @@ one_sorted (y ∷ ys) (z ∷ zs) s t h =
     ap (λ (x : Text). x ∷ ys) same ∙ ap (λ (l : List Text). z ∷ l) rest
 
 -- a permutation that is sorted is one
-pub one_order : (xs ys zs : List Text) → IsPermutation xs ys → IsPermutation xs zs → AreSorted ys → AreSorted zs → ys ≡ zs
-one_order xs ys zs p q s t = one_sorted ys zs s t (λ a. sum_by-IsPermutation (hit a) xs ys p ∙ sym (sum_by-IsPermutation (hit a) xs zs q))
+pub one_order : (xs ys zs : List Text) → IsPermutation xs ys → IsPermutation xs zs → AreSorted ys → AreSorted zs
+    → ys ≡ zs
+one_order xs ys zs p q s t = one_sorted ys zs s t (λ a. sum_by-IsPermutation (hit a) xs ys p
+    ∙ sym (sum_by-IsPermutation (hit a) xs zs q))

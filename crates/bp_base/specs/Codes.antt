@@ -1,9 +1,16 @@
 -- The numbers and words of defects and limits.
 use Rattle.std.specs.Prelude.{ℕ, List, codes}
 use Rattle.bp_base.specs.declared.code.Code.{Code}
-use Rattle.bp_base.specs.declared.code.Code.TheVariants.{ProjectSyntax, ComponentSyntax, NoComponent, TwiceComponent, DependencyCycle, NoSource, LeftOut, Lexical, Layout, Syntax, NoProvision, NoRequirement, NameTaken, LinkClash, LinkCycle, Unfilled, NoModule, AmbiguousModule, ModuleCycle, NotInScope, AmbiguousName, Twice, ExportClash, NoSignatureOf, Fixity, Kind, SynonymUse, IllTyped, MergeClash, Mismatch, NoMain, NoEntry, OldEntry}
+use Rattle.bp_base.specs.declared.code.Code.TheVariants.{ProjectSyntax, ComponentSyntax, NoComponent, TwiceComponent}
+use Rattle.bp_base.specs.declared.code.Code.TheVariants.{DependencyCycle, NoSource, LeftOut, Lexical, Layout, Syntax}
+use Rattle.bp_base.specs.declared.code.Code.TheVariants.{NoProvision, NoRequirement, NameTaken, LinkClash, LinkCycle}
+use Rattle.bp_base.specs.declared.code.Code.TheVariants.{Unfilled, NoModule, AmbiguousModule, ModuleCycle, NotInScope}
+use Rattle.bp_base.specs.declared.code.Code.TheVariants.{AmbiguousName, Twice, ExportClash, NoSignatureOf, Fixity, Kind}
+use Rattle.bp_base.specs.declared.code.Code.TheVariants.{SynonymUse, IllTyped, MergeClash, Mismatch, NoMain, NoEntry}
+use Rattle.bp_base.specs.declared.code.Code.TheVariants.{OldEntry}
 use Rattle.bp_base.specs.declared.code.Which.{Which}
-use Rattle.bp_base.specs.declared.code.Which.TheVariants.{FileBytes, SourceBytes, Components, OwnModules, Nesting, Units, FlatModules, TypeDepth, EntryBytes, Serials}
+use Rattle.bp_base.specs.declared.code.Which.TheVariants.{FileBytes, SourceBytes, Components, OwnModules, Nesting}
+use Rattle.bp_base.specs.declared.code.Which.TheVariants.{Units, FlatModules, TypeDepth, EntryBytes, Serials}
 
 -- the number of a kind of defect
 abbrev pub code_number : Code → ℕ

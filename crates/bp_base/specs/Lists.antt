@@ -26,7 +26,8 @@ pub record IsOnly {X : Type 0} (P : X → Type 0) (it : X) : Type 0 where
   pub holds : P it
   pub only : (other : X) → P other → other ≡ it
 
--- A loop that reads a list, item by item: what was read before the rest, with what is read from the rest, is what is read from
+-- A loop that reads a list, item by item: what was read before the rest, with what is read from the rest, is what is
+-- read from
 -- the start.
 pub record SoFar {X S : Type 0} (Reads : S → List X → Type 0) (start rest : S) (done : List X) : Type 0 where
   pub sound : (more : List X) → Reads rest more → Reads start (done ++ more)

@@ -16,7 +16,8 @@ OnStop-map (s.Limit hit) P Q f h = f (Passed hit) h
 OnStop-map s.ReadFault P Q f h = tt
 OnStop-map s.NoMemory P Q f h = tt
 
-pub OnRefusal-map : (refusal : Refusal) (P Q : Refused → Type 0) → ((r : Refused) → P r → Q r) → OnRefusal refusal P → OnRefusal refusal Q
+pub OnRefusal-map : (refusal : Refusal) (P Q : Refused → Type 0) → ((r : Refused) → P r → Q r) → OnRefusal refusal P
+    → OnRefusal refusal Q
 OnRefusal-map (r.Defect d) P Q f h = f (Wrong d) h
 OnRefusal-map (r.Limit hit) P Q f h = f (Passed hit) h
 OnRefusal-map r.NoMemory P Q f h = tt
@@ -28,7 +29,8 @@ OnRefusal-stops (r.Limit hit) P h = h
 OnRefusal-stops r.NoMemory P h = h
 
 -- a form that a text has once at most
-pub IsExact-spelled : {B : Type 0} (IsOfForm : B → Type 0) (d : OfDefect) → ((b c : B) → IsOfForm b → IsOfForm c → b ≡ c) → IsExact (spelled IsOfForm d)
+pub IsExact-spelled : {B : Type 0} (IsOfForm : B → Type 0) (d : OfDefect)
+    → ((b c : B) → IsOfForm b → IsOfForm c → b ≡ c) → IsExact (spelled IsOfForm d)
 IsExact-spelled IsOfForm d one = record {
   one_answer = one;
   one_refusal = λ r q h k. h.1 ∙ sym k.1;
@@ -41,3 +43,6 @@ IsExact-needed P d = record {
   one_refusal = λ r q h k. h.1 ∙ sym k.1;
   never_both = λ b r p h. h.0 p;
 }
+
+-- what stages cite of their refusals
+pub ruleset refusal_laws = (OnStop-map, OnRefusal-map, OnRefusal-stops, IsExact-spelled, IsExact-needed)

@@ -12,6 +12,11 @@ module _ {X B C : Type 0} (told : Option X) (s : X → Check B Refused) (t : X �
   Tells-stopped stop h = λ x m. OnStop-map stop (s x).fails (s x >>= t x).fails (λ r z. inl z) (h x m)
 
   -- where the first answers, both tell what the second does
-  pub Tells-then : (b : B) (later : Option X) (r : Result C Stop) → later ≡ told → Tells told s (Ok b) → Tells later (λ x. t x b) r → Tells told (λ x. s x >>= t x) r
+  pub Tells-then : (b : B) (later : Option X) (r : Result C Stop) → later ≡ told → Tells told s (Ok b)
+      → Tells later (λ x. t x b) r → Tells told (λ x. s x >>= t x) r
   Tells-then b later (Ok c) e h k = λ x m. (b, h x m, k x (e ∙ m))
-  Tells-then b later (Err stop) e h k = λ x m. OnStop-map stop (t x b).fails (s x >>= t x).fails (λ r z. inr (b, h x m, z)) (k x (e ∙ m))
+  Tells-then b later (Err stop) e h k = λ x m. OnStop-map stop (t x b).fails (s x >>= t x).fails
+      (λ r z. inr (b, h x m, z)) (k x (e ∙ m))
+
+-- what a stage of several readings cites
+pub ruleset tells_laws = (Tells-stopped, Tells-then)

@@ -15,7 +15,10 @@ pub data Refused : Type 0 where
 
 -- a defect with its place
 abbrev pub defect_at : Code → Text → Text → Item → OfDefect
-defect_at code component at item = record { code = code; place = record { component = component; «module» = at; item = item } }
+defect_at code component at item = record {
+  code = code;
+  place = record { component = component; «module» = at; item = item };
+}
 
 -- what a text spells, by this form, or else this defect
 abbrev pub spelled : {B : Type 0} → (B → Type 0) → OfDefect → Check B Refused

@@ -19,6 +19,8 @@ Totals counts [] n = n ≡ 0
 Totals counts (x ∷ xs) n = (a : ℕ) × (b : ℕ) × counts x a × Totals counts xs b × (n ≡ a + b)
 
 -- A loop on its way that has counted steps: with what the rest counts it comes to what the whole counts.
-pub record Spending {X A : Type 0} (meant : X → Type 0) (counts : X → A → ℕ → Type 0) (items rest : List A) (start now : ℕ) : Type 0 where
+pub record Spending {X A : Type 0} (meant : X → Type 0) (counts : X → A → ℕ
+    → Type 0) (items rest : List A) (start now : ℕ) : Type 0 where
   pub later : start ≤ now
-  pub left : (x : X) (n : ℕ) → meant x → Totals (counts x) items n → (m : ℕ) × Totals (counts x) rest m × (now + m ≡ start + n)
+  pub left : (x : X) (n : ℕ) → meant x → Totals (counts x) items n
+      → (m : ℕ) × Totals (counts x) rest m × (now + m ≡ start + n)

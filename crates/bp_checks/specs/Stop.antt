@@ -20,7 +20,8 @@ OnStop (s.Limit hit) P = P (Passed hit)
 OnStop s.ReadFault P = ⊤
 OnStop s.NoMemory P = ⊤
 
--- What a step tells that reads: where it is told what stands outside, as the files of a tree, its answer passes the check that they
+-- What a step tells that reads: where it is told what stands outside, as the files of a tree, its answer passes the
+-- check that they
 -- give, and its refusal fails it.
 abbrev pub Tells : {X B : Type 0} → Option X → (X → Check B Refused) → Result B Stop → Type 0
 Tells {X} told gives (Ok b) = (x : X) → told ≡ Some x → (gives x).passes b

@@ -1,6 +1,8 @@
 //! Worked equations.
 use bp_base::{Fill, Name};
-use hole_unify::{Equation, Equations, Head, IdentUnifyError, are_lawful, unify_idents, unify_shared};
+use hole_unify::{
+    Equation, Equations, Head, IdentUnifyError, are_lawful, unify_idents, unify_shared,
+};
 use sqlite_items::Items;
 use std::alloc::{AllocError, Global};
 use std::test::Fail;

@@ -64,12 +64,6 @@ at-rest g walked eb ed = record {
 abbrev nobody : UseList
 nobody = record { uses = [] }
 
-no-uses : (n v : ℕ) → uses_at (replicate n nobody) v ≡ []
-no-uses n v = elim (cases_lt v n) [
-  | inl l ↦ ap (λ (u : UseList). u.uses) (get_or-replicate n v nobody nobody l)
-  | inr l ↦ ap (λ (u : UseList). u.uses) (get_or_past (replicate n nobody) v nobody (let e : length (replicate n nobody) ≡ n = length-replicate n nobody in omega (arith, e)))
-]
-
 pub used-one : (old : List UseList) (used user : ℕ) → used < length old → IsUsedBy old (set old used (record { uses = uses_at old used ++ user ∷ [] })) (used ∷ []) user
 used-one old used user l = record {
   size = length-set old used longer;
@@ -96,9 +90,6 @@ used-one old used user l = record {
     off : (v : ℕ) → v ≢ used → get_or (set old used longer) v nobody ≡ get_or old v nobody
     off v n = get_or-set_other old used v longer nobody n
 
-pub used-by-none : (users : List UseList) (user : ℕ) → IsUsedBy users users [] user
-used-by-none users user = record { size = refl; kept = λ v w a. a; added = λ v a. absurd a; only = λ v w a. inl a }
-
 pub used-more : (old mid new : List UseList) (used : List ℕ) (one user : ℕ) → IsUsedBy old mid used user → IsUsedBy mid new (one ∷ []) user → IsUsedBy old new (used ++ one ∷ []) user
 used-more old mid new used one user p q = record {
   size = q.size ∙ p.size;
@@ -109,13 +100,6 @@ used-more old mid new used one user p q = record {
     | inr b ↦ inr (b.0, among-right v used (one ∷ []) b.1)
   ];
 }
-
-pub turned-none : (g h : List UseList) → h ≡ replicate (length g) (record { uses = [] }) → IsTurnedBelow g h 0
-turned-none g h is = subst (λ (h : List UseList). IsTurnedBelow g h 0) (sym is) (record {
-  size = length-replicate (length g) nobody;
-  back = λ v w a. absurd (subst (λ (xs : List ℕ). Among w xs) (no-uses (length g) v) a);
-  forth = λ v w l a. absurd (omega arith);
-})
 
 pub turned-more : (g h new : List UseList) (n : ℕ) (uses : List ℕ) → IsTurnedBelow g h n → uses ≡ uses_at g n → IsUsedBy h new uses n → IsTurnedBelow g new (n + 1)
 turned-more g h new n uses t is u = record {
@@ -132,16 +116,6 @@ turned-more g h new n uses t is u = record {
   where
     below : (w : ℕ) → w ≢ n → w < n + 1 → w < n
     below w d l = omega arith
-
-pub turned-all : (g h : List UseList) (n : ℕ) → InRange g → length g ≤ n → IsTurnedBelow g h n → IsTurned g h
-turned-all g h n r l t = record {
-  size = t.size;
-  back = t.back;
-  forth = λ v w a. t.forth v w (let b : w < length g = user-below v w a in omega (arith, b)) a;
-}
-  where
-    user-below : (v w : ℕ) → Among v (uses_at g w) → w < length g
-    user-below v w m = elim (cases_lt w (length g)) [ inl k ↦ k | inr k ↦ absurd (subst (λ (u : UseList). Among v u.uses) (get_or_past g w (record { uses = [] }) k) m) ]
 
 pub among-at : (xs : List ℕ) (i : ℕ) → i < length xs → Among (get_or xs i 0) xs
 among-at [] i l = absurd (omega arith)
@@ -178,10 +152,6 @@ gathering-start g h order walked groups r ed eg = record {
   only = λ w a. absurd (subst (λ (d : List ℕ). Among w d) ed a);
   grouped = subst (λ (x : List IndexGroup). Grouped g [] (reverse x)) (sym eg) none;
 }
-
-pub gathering-end : (g h : List UseList) (order left : List ℕ) (walked : Walked) (groups : List IndexGroup) → IsGathering g h order left walked groups → left ≡ []
-    → Grouped g order (reverse groups)
-gathering-end g h order left walked groups w e = subst (λ (o : List ℕ). Grouped g o (reverse groups)) (sym (w.is ∙ ap (λ (l : List ℕ). l ++ w.past) e)) w.grouped
 
 module _ (g h : List UseList) (order : List ℕ) (r : InRange g) (whole : DepthFirst g [] [] (indices (length g)) order) (turned : IsTurned g h) where
   all-grown : Grown g [] [] (indices (length g)) order

@@ -36,9 +36,6 @@ pub ruleset type_equations = (at-App, at-WApp)
 
 -- what was made of the parts of a name and of a type
 
-pub made-name : (n : OrigName) (u u' : OfUnit) (m m' occ' : Text) (by : Renaming) → n.at ≡ Module u m → u' ≡ filled_unit u by.fills → m' ≡ m → occ' ≡ n.occ → (record { at = Module u' m'; space = n.space; occ = occ' }) ≡ renamed_name n by
-made-name n u u' m m' occ' by is p q r = (λ i. record { at = Module (p i) (q i); space = n.space; occ = r i }) ∙ sym (ap (λ x. renamed_at x n.space n.occ by) is ∙ at-Module u m n.space n.occ by)
-
 pub made-App : (x a b a' b' : Ty) (by : Renaming) → x ≡ App a b → a' ≡ renamed_ty a by → b' ≡ renamed_ty b by → App a' b' ≡ renamed_ty x by
 made-App x a b a' b' by is p q = (λ i. App (p i) (q i)) ∙ sym (ap (λ y. renamed_ty y by) is ∙ at-App a b by)
 

@@ -4,6 +4,7 @@ use Rattle.std.specs.Prelude.{Decides}
 use Rattle.std.specs.Str.{bytes_eq}
 use Rattle.std.proofs.lemmas.Bool.{and_parts}
 use Rattle.std.proofs.lemmas.Slice.Eq.{bytes_eq-Decides}
+use Rattle.bp_base.proofs.Texts.{texts_same, same_texts}
 use Rattle.bp_base.specs.Texts.{Text}
 use Rattle.bp_base.specs.declared.ident.Ident.{Ident}
 use Rattle.bp_base.specs.declared.ident.Ident.TheVariants.{Hole, Module'}
@@ -18,12 +19,6 @@ use Rattle.hs_core.specs.Sameness.{same_space, same_identity, same_units, same_f
 use denote.Hole.Carrier.{out, shown}
 use mathlib.Core.Former.{list_count, this, none_left}
 
-text_itself : (x : Text) → bytes_eq x x ≡ true
-text_itself x = (bytes_eq-Decides x x).1 refl
-
-text_same : (x y : Text) → bytes_eq x y ≡ true → x ≡ y
-text_same x y e = (bytes_eq-Decides x y).0 e
-
 space_itself : (s : Space) → same_space s s ≡ true
 space_itself Types = refl
 space_itself Values = refl
@@ -36,15 +31,15 @@ space_same Values Values e = refl
 
 mutual
   identity_itself : (i : Ident) → same_identity i i ≡ true
-  identity_itself (Hole h) = text_itself h
-  identity_itself (Module' s (more_of-Unit u end_of-Unit) m) = ap₂ ◌&&◌ (text_itself m) (unit_itself u)
+  identity_itself (Hole h) = texts_same h
+  identity_itself (Module' s (more_of-Unit u end_of-Unit) m) = ap₂ ◌&&◌ (texts_same m) (unit_itself u)
 
   unit_itself : (u : OfUnit) → same_units u u ≡ true
-  unit_itself (Unit' c s r) = ap₂ ◌&&◌ (text_itself c) (filling_itself r)
+  unit_itself (Unit' c s r) = ap₂ ◌&&◌ (texts_same c) (filling_itself r)
 
   filling_itself : {m : _} (r : Row_of-Fill m) → same_filling r r ≡ true
   filling_itself end_of-Fill = refl
-  filling_itself (more_of-Fill h i r) = ap₂ ◌&&◌ (text_itself h) (ap₂ ◌&&◌ (identity_itself i) (filling_itself r))
+  filling_itself (more_of-Fill h i r) = ap₂ ◌&&◌ (texts_same h) (ap₂ ◌&&◌ (identity_itself i) (filling_itself r))
 
 -- the fills of a row
 abbrev fills_of : {m : _} → Row_of-Fill m → List Fill
@@ -70,17 +65,17 @@ unit_from c d s z r q e f =
 
 mutual
   identity_same : (i j : Ident) → same_identity i j ≡ true → i ≡ j
-  identity_same (Hole h) (Hole g) e = ap Hole (text_same h g e)
+  identity_same (Hole h) (Hole g) e = ap Hole (same_texts h g e)
   identity_same (Hole h) (Module' z (more_of-Unit v end_of-Unit) n) e = absurd (true≢false (sym e))
   identity_same (Module' s (more_of-Unit u end_of-Unit) m) (Hole g) e = absurd (true≢false (sym e))
   identity_same (Module' s (more_of-Unit u end_of-Unit) m) (Module' z (more_of-Unit v end_of-Unit) n) e =
       let parts = and_parts (bytes_eq m n) (same_units u v) e in
-      ap₂ (λ x y. Module' s (more_of-Unit x end_of-Unit) y) (units_same u v parts.1) (text_same m n parts.0)
+      ap₂ (λ x y. Module' s (more_of-Unit x end_of-Unit) y) (units_same u v parts.1) (same_texts m n parts.0)
 
   units_same : (u v : OfUnit) → same_units u v ≡ true → u ≡ v
   units_same (Unit' c s r) (Unit' d z q) e =
       let parts = and_parts (bytes_eq c d) (same_filling r q) e in
-      unit_from c d s z r q (text_same c d parts.0) (filling_same r q parts.1)
+      unit_from c d s z r q (same_texts c d parts.0) (filling_same r q parts.1)
 
   filling_same : {m n : _} (r : Row_of-Fill m) (q : Row_of-Fill n) → same_filling r q ≡ true → fills_of r ≡ fills_of q
   filling_same end_of-Fill end_of-Fill e = refl
@@ -90,18 +85,15 @@ mutual
       let parts = and_parts (bytes_eq h g) (same_identity i j && same_filling r q) e in
       let rest = and_parts (same_identity i j) (same_filling r q) parts.1 in
       ap₂ (λ x y. x ∷ y)
-      (ap₂ (λ x y. record { hole = x; ident = y }) (text_same h g parts.0) (identity_same i j rest.0))
+      (ap₂ (λ x y. record { hole = x; ident = y }) (same_texts h g parts.0) (identity_same i j rest.0))
       (filling_same r q rest.1)
 
 -- a name is itself, and what the test calls one is one
 pub original_itself : (n : OrigName) → same_original n n ≡ true
-original_itself n = ap₂ ◌&&◌ (text_itself n.occ) (ap₂ ◌&&◌ (space_itself n.space) (identity_itself n.at))
+original_itself n = ap₂ ◌&&◌ (texts_same n.occ) (ap₂ ◌&&◌ (space_itself n.space) (identity_itself n.at))
 
 pub original_same : (n m : OrigName) → same_original n m ≡ true → n ≡ m
 original_same n m e =
     let parts = and_parts (bytes_eq n.occ m.occ) (same_space n.space m.space && same_identity n.at m.at) e in
     let rest = and_parts (same_space n.space m.space) (same_identity n.at m.at) parts.1 in
-    λ i. record { at = identity_same n.at m.at rest.1 i; space = space_same n.space m.space rest.0 i; occ = text_same n.occ m.occ parts.0 i }
-
-pub originals_decided : (n m : OrigName) → Decides (same_original n m) (n ≡ m)
-originals_decided n m = (original_same n m, λ p. ap (λ x. same_original n x) (sym p) ∙ original_itself n)
+    λ i. record { at = identity_same n.at m.at rest.1 i; space = space_same n.space m.space rest.0 i; occ = same_texts n.occ m.occ parts.0 i }

@@ -2,6 +2,7 @@
 use Rattle.std.proofs.Common.{◌≡◌, refl, sym, ap, ap₂, ◌∙◌, subst, inl, inr, ℕ, zero, suc, Bool, true, false, not, ◌&&◌, ◌||◌, cond, List, [], ◌∷◌, ◌++◌, map, filter}
 use Rattle.std.proofs.lemmas.List.{map-append}
 use Rattle.std.proofs.Math.Path.{fun_ext}
+use Rattle.bp_base.proofs.Sets.{among-map, among-image}
 use Rattle.bp_base.specs.Texts.{Text}
 use Rattle.bp_base.specs.Lists.{Among, is_among}
 use Rattle.bp_base.specs.declared.special.Special.TheVariants as s
@@ -39,16 +40,6 @@ map-map g f h p (x ∷ xs) = ap₂ (λ y l. y ∷ l) (p x) (map-map g f h p xs)
 count-map : {A B : Type 0} (f : A → B) (xs : List A) → count (map f xs) ≡ count xs
 count-map f [] = refl
 count-map f (x ∷ xs) = ap suc (count-map f xs)
-
-Among-map : {A B : Type 0} (f : A → B) (x : A) (xs : List A) → Among x xs → Among (f x) (map f xs)
-Among-map f x [] h = absurd h
-Among-map f x (y ∷ ys) (inl p) = inl (ap f p)
-Among-map f x (y ∷ ys) (inr h) = inr (Among-map f x ys h)
-
-Among-unmap : {A B : Type 0} (f : A → B) (y : B) (xs : List A) → Among y (map f xs) → (x : A) × Among x xs × (f x ≡ y)
-Among-unmap f y [] h = absurd h
-Among-unmap f y (x ∷ xs) (inl p) = (x, inl refl, p)
-Among-unmap f y (x ∷ xs) (inr h) = let u = Among-unmap f y xs h in (u.0, inr u.1, u.2)
 
 filter-step : {A B : Type 0} (f : A → B) (p : B → Bool) (q : A → Bool) (x : A) (xs : List A) (b : Bool)
     → filter p (map f xs) ≡ map f (filter q xs)
@@ -298,7 +289,7 @@ module _ (r : Replacement) (G : Globals) (H : Globals) (F : Follows r G H) where
   all_among : (bs given : List Bound) → AllAmong bs given
       → AllAmong (map (replaced_bound r) bs) (map (replaced_bound r) given)
   all_among [] given h = tt
-  all_among (b ∷ bs) given h = (Among-map (replaced_bound r) b given h.0, all_among bs given h.1)
+  all_among (b ∷ bs) given h = (among-map (replaced_bound r) b given h.0, all_among bs given h.1)
 
   all_typed : (typed typed_after : IsTyped) → Carries typed typed_after
       → (kinds : Kinds) (en en' : List Assumption) (given : List Bound) (is : List ℕ) → replaced_environment r en ≡ en'
@@ -335,7 +326,7 @@ module _ (r : Replacement) (G : Globals) (H : Globals) (F : Follows r G H) where
   meets typed typed_after step ds kinds env members e h = record {
     typing = group_typing typed typed_after step ds kinds env members h.typing;
     type = replaced_names r h.type;
-    has = Among-map (replaced_bound r) _ h.typing.given h.has;
+    has = among-map (replaced_bound r) _ h.typing.given h.has;
     rigid = rigid h.typing.inside env e.scheme h.type h.rigid;
   }
 
@@ -351,7 +342,7 @@ module _ (r : Replacement) (G : Globals) (H : Globals) (F : Follows r G H) where
     generalises = ap (replaced_environment r) h.generalises
         ∙ generalises env h.typing.inside (unsigned ds h.typing.given)
         ∙ ap (generalised (replaced_environment r env) h.typing.inside) (sym (unsigned_replaced ds h.typing.given));
-    signatures = λ e a b. let u = Among-unmap (replaced_assumption r) e es a in
+    signatures = λ e a b. let u = among-image (replaced_assumption r) e es a in
         subst (λ z. MeetsSignature typed_after ds kinds (replaced_environment r env) members z) u.2
         (meets typed typed_after step ds kinds env members u.0
         (h.signatures u.0 u.1 (subst (λ z. Among z.name (names_bound ds members)) (sym u.2) b)));

@@ -58,24 +58,34 @@ module _ {K T : Type 0} (form : Form K T) (t : K) (ends : (x : T) → form.exten
   reads_closed x rest r = record {
     good = r.good;
     only = λ s other after same good quiet e.
-        let found = r.only (t ∷ s) other (t ∷ after) (s, refl) good (ends other) (sym (regroup_closed x s) ∙ e ∙ regroup_closed other after) in
+        let found = r.only (t ∷ s) other (t ∷ after) (s, refl) good (ends other) (sym (regroup_closed x s) ∙ e
+        ∙ regroup_closed other after) in
         (found.0, uncons t _ _ found.1);
   }
 
   pub refuses_closed : (before bad : List K) → Refuses form before bad → Refuses (closed form t) before bad
   refuses_closed before bad r = record {
-    begun = (r.begun.0 ++ t ∷ [], r.begun.1, r.begun.2, sym (append_assoc before r.begun.0 (t ∷ [])) ∙ ap (λ l. l ++ t ∷ []) r.begun.3);
-    never = λ s other after same good quiet e. r.never s other (t ∷ after) same good (ends other) (e ∙ regroup_closed other after);
+    begun = (
+      r.begun.0 ++ t ∷ [],
+      r.begun.1,
+      r.begun.2,
+      sym (append_assoc before r.begun.0 (t ∷ []))
+          ∙ ap (λ l. l ++ t ∷ []) r.begun.3,
+    );
+    never = λ s other after same good quiet e. r.never s other (t ∷ after) same good (ends other) (e
+        ∙ regroup_closed other after);
   }
 
 -- a tree was read, and its closing token does not follow
 pub closing_missed : {K T : Type 0} (form : Form K T) (t : K) (ends : (x : T) → form.extends x t ≡ false) (is_t : K →
     Bool) → is_t t ≡ true →
-    (x : T) (rest : List K) → Reads form x rest → begins is_t rest ≡ false → Refuses (closed form t) (form.tokens x) rest
+    (x : T) (rest : List K) → Reads form x rest → begins is_t rest ≡ false
+    → Refuses (closed form t) (form.tokens x) rest
 closing_missed form t ends is_t is x rest r missed = record {
   begun = (t ∷ [], x, r.good, refl);
   never = λ s other after same good quiet e.
-      let found = r.only s other (t ∷ after) same good (ends other) (e ∙ append_assoc (form.tokens other) (t ∷ []) after) in
+      let found = r.only s other (t ∷ after) same good (ends other) (e
+      ∙ append_assoc (form.tokens other) (t ∷ []) after) in
       true≢false (sym is ∙ ap (begins is_t) found.1 ∙ begins_same is_t rest s same ∙ missed);
 }
 
@@ -113,7 +123,8 @@ module _ {K T : Type 0} (form : Form K T) (Fits : T → Type 0) (t : K)
               ∙ sym (append_assoc (form.tokens r.begun.1) c.0 (t ∷ [])) ∙ ap (λ l. l ++ t ∷ []) c.4,
         );
         never = λ s other after same good quiet e.
-            r.never s other (t ∷ after) same good.0 (ends other good.1) (e ∙ append_assoc (form.tokens other) (t ∷ []) after);
+            r.never s other (t ∷ after) same good.0 (ends other good.1) (e
+            ∙ append_assoc (form.tokens other) (t ∷ []) after);
       }
 
   -- a tree was read, and the token does not stand there, or may not close it
@@ -194,20 +205,23 @@ module _ {K T U : Type 0} (one : Form K T) (two : Form K U) (Fits : T → U → 
         subst (λ l. SameStart l (before ++ s)) (sym at) (same_start_append before bad s same) in
         let found = r.only (before ++ s) other.0 (two.tokens other.1 ++ after) same' good.0
         (quiet_one other.0 other.1 after good.2)
-        (sym (append_assoc (one.tokens x) before s) ∙ e ∙ append_assoc (one.tokens other.0) (two.tokens other.1) after) in
+        (sym (append_assoc (one.tokens x) before s) ∙ e
+        ∙ append_assoc (one.tokens other.0) (two.tokens other.1) after) in
         q.never s other.1 after same good.1 quiet (sym found.1);
   }
 
   -- the first was read, and no second that fits it stands there
   pub pair_missed : CompletesPair one two Fits → (x : T) (here : List K) → Reads one x here →
-      ((s : List K) (u : U) (after : List K) → SameStart here s → two.Good u → Fits x u → s ≡ two.tokens u ++ after → ⊥) →
+      ((s : List K) (u : U) (after : List K) → SameStart here s → two.Good u → Fits x u → s ≡ two.tokens u ++ after
+      → ⊥) →
       Refuses (pair one two Fits) (one.tokens x) here
   pair_missed completes x here r missed =
       let c = completes x r.good in
       record {
         begun = (c.0, (c.1, c.2), (c.3, c.4, c.5), c.6);
         never = λ s other after same good quiet e.
-            let found = r.only s other.0 (two.tokens other.1 ++ after) same good.0 (quiet_one other.0 other.1 after good.2)
+            let found = r.only s other.0 (two.tokens other.1 ++ after) same good.0
+            (quiet_one other.0 other.1 after good.2)
             (e ∙ append_assoc (one.tokens other.0) (two.tokens other.1) after) in
             missed s other.1 after same good.1 (subst (λ y. Fits y other.1) found.0 good.2) (sym found.1);
       }
@@ -224,3 +238,6 @@ reads_fewer big small tokens good extends x rest r g = record {
       (begins_within (small.extends other) (big.extends other) after (λ k q. extends other k fits q) quiet)
       (ap (λ l. l ++ s) (sym (tokens x)) ∙ e ∙ ap (λ l. l ++ after) (tokens other));
 }
+
+-- closing tokens and forms of fewer trees, for readers of expressions and declarations
+pub ruleset closing_laws = (reads_closed_if, refuses_closed_if, closed_if_missed, pair_missed, reads_fewer)

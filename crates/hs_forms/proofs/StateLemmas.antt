@@ -30,7 +30,8 @@ fails_after form part front ts here (At left) split f r = record {
 fails_after form part front ts here NoMemory split f r = tt
 
 split_more : {K X : Type 0} (items : X → List K) (ts front : List K) (xs : List X) (x : X) (here rest : List K) →
-    ts ≡ (front ++ flat_map items xs) ++ here → here ≡ items x ++ rest → ts ≡ (front ++ flat_map items (xs ++ x ∷ [])) ++ rest
+    ts ≡ (front ++ flat_map items xs) ++ here → here ≡ items x ++ rest
+    → ts ≡ (front ++ flat_map items (xs ++ x ∷ [])) ++ rest
 split_more items ts front xs x here rest e at =
     e ∙ ap (λ l. (front ++ flat_map items xs) ++ l) at
     ∙ rw (flat_map-append items xs (x ∷ [])) (simp (append_assoc, append-nil))
@@ -39,7 +40,8 @@ split_first : {K X : Type 0} (items : X → List K) (ts front rest : List K) →
     ts ≡ (front ++ flat_map items []) ++ rest
 split_first items ts front rest e = e ∙ ap (λ l. l ++ rest) (sym (append-nil front))
 
-pub record State {K T H X : Type 0} (c : Chain K T H X) (ts : List K) (h : H) (xs : List X) (here : List K) (deep : ℕ) : Type 0 where
+pub record State {K T H X : Type 0} (c : Chain K T H X) (ts : List K) (h : H) (xs : List X) (here : List K)
+    (deep : ℕ) : Type 0 where
   pub so : SoFar c.form c.head c.items c.make h xs here
   pub split : ts ≡ (c.head.tokens h ++ flat_map c.items xs) ++ here
   pub deep_is : deep ≡ max (c.head_depth h) (deepest (map c.item_depth xs))
@@ -49,7 +51,8 @@ module _ {K T H X : Type 0} (c : Chain K T H X) where
   pub state_first : (ts : List K) (h : H) (rest : List K) (d : ℕ) → Accepts c.head c.head_depth ts h rest d →
       State c ts h [] rest d
   state_first ts h rest d a = record {
-    so = chain_first c.form c.head c.items c.item c.inner c.starter c.make c.laws h rest a.reads (c.first h a.reads.good);
+    so = chain_first c.form c.head c.items c.item c.inner c.starter c.make c.laws h rest a.reads
+        (c.first h a.reads.good);
     split = split_first c.items ts (c.head.tokens h) rest a.spelled;
     deep_is = omega (arith, a.measured_is);
     room = omega (arith, a.room);
@@ -57,7 +60,8 @@ module _ {K T H X : Type 0} (c : Chain K T H X) where
 
   pub state_step : (ts : List K) (h : H) (xs : List X) (here : List K) (d : ℕ) (x : X) (rest : List K) (e : ℕ) →
       State c ts h xs here d → c.Room h xs →
-      Accepts (item_form c.items c.item c.inner (length xs)) c.item_depth here x rest e → State c ts h (xs ++ x ∷ []) rest (max d e)
+      Accepts (item_form c.items c.item c.inner (length xs)) c.item_depth here x rest e
+      → State c ts h (xs ++ x ∷ []) rest (max d e)
   state_step ts h xs here d x rest e s free a =
       let long = length-append xs (x ∷ []) in
       let new = deep_more c.item_depth xs x in
@@ -66,7 +70,8 @@ module _ {K T H X : Type 0} (c : Chain K T H X) where
       let is = a.measured_is in
       let less = a.room in
       record {
-        so = chain_step c.form c.head c.items c.item c.inner c.starter c.make c.laws h xs x here rest s.so a.spelled a.reads (c.more h xs x s.so.good free a.reads.good);
+        so = chain_step c.form c.head c.items c.item c.inner c.starter c.make c.laws h xs x here rest s.so a.spelled
+            a.reads (c.more h xs x s.so.good free a.reads.good);
         split = split_more c.items ts (c.head.tokens h) xs x here rest s.split a.spelled;
         deep_is = omega arith;
         room = omega arith;
@@ -85,13 +90,17 @@ module _ {K T H X : Type 0} (c : Chain K T H X) where
   pub state_head_fails : (ts : List K) (e : Fault) → Fails c.head ts e → Fails c.form ts e
   state_head_fails ts e r =
       fails_after c.form c.head [] ts ts e refl
-      (λ before bad at r'. head_refused c.form c.head c.items c.item c.inner c.starter c.make c.laws before bad r' c.first) r
+      (λ before bad at r'. head_refused c.form c.head c.items c.item c.inner c.starter c.make c.laws before bad r'
+      c.first) r
 
   pub state_fails : (ts : List K) (h : H) (xs : List X) (here : List K) (d : ℕ) (e : Fault) →
-      State c ts h xs here d → begins c.starter here ≡ true → c.Room h xs → Fails (item_form c.items c.item c.inner (length xs)) here e → Fails c.form ts e
+      State c ts h xs here d → begins c.starter here ≡ true → c.Room h xs
+      → Fails (item_form c.items c.item c.inner (length xs)) here e → Fails c.form ts e
   state_fails ts h xs here d e s starts free r =
-      fails_after c.form (item_form c.items c.item c.inner (length xs)) (c.head.tokens h ++ flat_map c.items xs) ts here e s.split
-      (λ before bad at r'. item_refused c.form c.head c.items c.item c.inner c.starter c.make c.laws h xs here before bad s.so starts at r' (λ x good. c.more h xs x s.so.good free good)) r
+      fails_after c.form (item_form c.items c.item c.inner (length xs))
+      (c.head.tokens h ++ flat_map c.items xs) ts here e s.split
+      (λ before bad at r'. item_refused c.form c.head c.items c.item c.inner c.starter c.make c.laws h xs here before
+      bad s.so starts at r' (λ x good. c.more h xs x s.so.good free good)) r
 
   pub state_over : (ts : List K) (h : H) (xs : List X) (here : List K) (d : ℕ) →
       State c ts h xs here d → begins c.starter here ≡ true → (c.Room h xs → ⊥) → Rejects c.form ts (length here)
@@ -100,5 +109,6 @@ module _ {K T H X : Type 0} (c : Chain K T H X) where
     bad = here;
     split = s.split;
     left_is = refl;
-    refuses = chain_over c.form c.head c.items c.item c.inner c.starter c.make c.laws h xs here s.so starts (λ x more good. none (c.full h xs x more good));
+    refuses = chain_over c.form c.head c.items c.item c.inner c.starter c.make c.laws h xs here s.so starts
+        (λ x more good. none (c.full h xs x more good));
   }

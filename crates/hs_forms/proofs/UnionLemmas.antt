@@ -10,10 +10,12 @@ use Rattle.hs_forms.specs.Forms.{narrow, either}
 use Rattle.hs_forms.specs.Productions.{Onto}
 use Rattle.hs_forms.proofs.FormLemmas.{same_start_append, begins_within, begins_same}
 
-module _ {K T : Type 0} (form : Form K T) (follow : K → Bool) (ends : (x : T) (t : K) → follow t ≡ true → form.extends x t ≡ false) where
+module _ {K T : Type 0} (form : Form K T) (follow : K → Bool) (ends : (x : T) (t : K) → follow t ≡ true
+    → form.extends x t ≡ false) where
   quiet_wide : (x : T) (after : List K) → begins (λ t. not (follow t)) after ≡ false →
       begins (form.extends x) after ≡ false
-  quiet_wide x after q = begins_within (λ t. not (follow t)) (form.extends x) after (λ t e. ends x t (not-false (follow t) e)) q
+  quiet_wide x after q = begins_within (λ t. not (follow t)) (form.extends x) after
+      (λ t e. ends x t (not-false (follow t) e)) q
 
   pub reads_narrow : (x : T) (rest : List K) → Reads form x rest → Reads (narrow form follow) x rest
   reads_narrow x rest r = record {
@@ -44,9 +46,11 @@ module _ {K A B : Type 0} (a : Form K A) (b : Form K B) (f : A → B) (o : Onto 
     good = o.good x r.good;
     only = λ s other after same good quiet e.
         let y = o.back other in
-        let quiet' = begins_within (b.extends (f y.0)) (a.extends y.0) after (o.extends y.0) (subst (λ z. begins (b.extends z) after ≡ false) y.1 quiet) in
+        let quiet' = begins_within (b.extends (f y.0)) (a.extends y.0) after (o.extends y.0)
+        (subst (λ z. begins (b.extends z) after ≡ false) y.1 quiet) in
         let e' : a.tokens x ++ s ≡ a.tokens y.0 ++ after =
-        ap (λ l. l ++ s) (sym (o.tokens x)) ∙ e ∙ ap (λ z. b.tokens z ++ after) y.1 ∙ ap (λ l. l ++ after) (o.tokens y.0) in
+        ap (λ l. l ++ s) (sym (o.tokens x)) ∙ e ∙ ap (λ z. b.tokens z ++ after) y.1
+        ∙ ap (λ l. l ++ after) (o.tokens y.0) in
         let found = r.only s y.0 after same (o.good_back y.0 (subst b.Good y.1 good)) quiet' e' in
         (y.1 ∙ ap f found.0, found.1);
   }
@@ -56,7 +60,8 @@ module _ {K A B : Type 0} (a : Form K A) (b : Form K B) (f : A → B) (o : Onto 
     begun = (r.begun.0, f r.begun.1, o.good r.begun.1 r.begun.2, r.begun.3 ∙ sym (o.tokens r.begun.1));
     never = λ s other after same good quiet e.
         let y = o.back other in
-        let quiet' = begins_within (b.extends (f y.0)) (a.extends y.0) after (o.extends y.0) (subst (λ z. begins (b.extends z) after ≡ false) y.1 quiet) in
+        let quiet' = begins_within (b.extends (f y.0)) (a.extends y.0) after (o.extends y.0)
+        (subst (λ z. begins (b.extends z) after ≡ false) y.1 quiet) in
         r.never s y.0 after same (o.good_back y.0 (subst b.Good y.1 good)) quiet'
         (e ∙ ap (λ z. b.tokens z ++ after) y.1 ∙ ap (λ l. l ++ after) (o.tokens y.0));
   }
@@ -76,10 +81,12 @@ module _ {K T U : Type 0} (one : Form K T) (two : Form K U) where
   -- a form that failed no later than a place has no tree that goes on there
   dead : (front here before bad s : List K) (u : U) (after : List K) → front ++ here ≡ before ++ bad →
       length before ≤ length front →
-      Refuses two before bad → SameStart here s → two.Good u → begins (two.extends u) after ≡ false → front ++ s ≡ two.tokens u ++ after → ⊥
+      Refuses two before bad → SameStart here s → two.Good u → begins (two.extends u) after ≡ false
+      → front ++ s ≡ two.tokens u ++ after → ⊥
   dead front here before bad s u after same_list le r same good quiet e =
       let cut = splits front here before bad same_list le in
-      let same' : SameStart bad (cut.0 ++ s) = subst (λ l. SameStart l (cut.0 ++ s)) (sym cut.2) (same_start_append cut.0 here s same) in
+      let same' : SameStart bad (cut.0 ++ s) = subst (λ l. SameStart l (cut.0 ++ s)) (sym cut.2)
+      (same_start_append cut.0 here s same) in
       r.never (cut.0 ++ s) u after same' good quiet
       (sym (append_assoc before cut.0 s) ∙ ap (λ l. l ++ s) (sym cut.1) ∙ e)
 
@@ -93,7 +100,8 @@ module _ {K T U : Type 0} (one : Form K T) (two : Form K U) where
   }
     where
       choose : (s : List K) (other : T ⊎ U) (after : List K) → SameStart bad s → (either one two).Good other →
-          begins ((either one two).extends other) after ≡ false → before ++ s ≡ (either one two).tokens other ++ after → ⊥
+          begins ((either one two).extends other) after ≡ false → before ++ s ≡ (either one two).tokens other ++ after
+          → ⊥
       choose s (inl y) after same good quiet e = r.never s y after same good quiet e
       choose s (inr u) after same good quiet e = dead before bad before' bad' s u after same_list le q same good quiet e
 
@@ -107,10 +115,12 @@ reads_second {K} {T} {U} one two x rest r none = record {
 }
   where
     choose : (s : List K) (other : T ⊎ U) (after : List K) → SameStart rest s → (either one two).Good other →
-        begins ((either one two).extends other) after ≡ false → two.tokens x ++ s ≡ (either one two).tokens other ++ after →
+        begins ((either one two).extends other) after ≡ false
+        → two.tokens x ++ s ≡ (either one two).tokens other ++ after →
         (other ≡ inr x) × (after ≡ s)
     choose s (inl y) after same good quiet e = absurd (none s y after same good quiet e)
-    choose s (inr u) after same good quiet e = let found = r.only s u after same good quiet e in (ap inr found.0, found.1)
+    choose s (inr u) after same good quiet e = let found = r.only s u after same good quiet e in
+        (ap inr found.0, found.1)
 
 -- A choice of which the first was read, and no tree of the second goes on where it ends.
 pub reads_one : {K T U : Type 0} (one : Form K T) (two : Form K U) (x : T) (rest : List K) → Reads one x rest →
@@ -122,9 +132,11 @@ reads_one {K} {T} {U} one two x rest r none = record {
 }
   where
     choose : (s : List K) (other : T ⊎ U) (after : List K) → SameStart rest s → (either one two).Good other →
-        begins ((either one two).extends other) after ≡ false → one.tokens x ++ s ≡ (either one two).tokens other ++ after →
+        begins ((either one two).extends other) after ≡ false
+        → one.tokens x ++ s ≡ (either one two).tokens other ++ after →
         (other ≡ inl x) × (after ≡ s)
-    choose s (inl y) after same good quiet e = let found = r.only s y after same good quiet e in (ap inl found.0, found.1)
+    choose s (inl y) after same good quiet e = let found = r.only s y after same good quiet e in
+        (ap inl found.0, found.1)
     choose s (inr u) after same good quiet e = absurd (none s u after same good quiet e)
 
 pub refuses_one : {K T U : Type 0} (one : Form K T) (two : Form K U) (before bad : List K) → Refuses one before bad →
@@ -195,7 +207,15 @@ rejects_later {K} {T} {U} one two ts l m r q = decide (total l m)
       split = r.split;
       left_is = omega (arith, r.left_is);
       refuses = refuses_first one two r.before r.bad q.before q.bad r.refuses q.refuses (sym r.split ∙ q.split)
-          (omega (arith, r.left_is, q.left_is, ap length r.split, ap length q.split, length-append r.before r.bad, length-append q.before q.bad));
+          (omega (
+            arith,
+            r.left_is,
+            q.left_is,
+            ap length r.split,
+            ap length q.split,
+            length-append r.before r.bad,
+            length-append q.before q.bad,
+          ));
     }
     decide (inr le) = record {
       before = q.before;
@@ -204,14 +224,24 @@ rejects_later {K} {T} {U} one two ts l m r q = decide (total l m)
       left_is = omega (arith, q.left_is);
       refuses = refuses_onto (either two one) (either one two) swap (swapped one two) q.before q.bad
           (refuses_first two one q.before q.bad r.before r.bad q.refuses r.refuses (sym q.split ∙ r.split)
-          (omega (arith, r.left_is, q.left_is, ap length r.split, ap length q.split, length-append r.before r.bad, length-append q.before q.bad)));
+          (omega (
+            arith,
+            r.left_is,
+            q.left_is,
+            ap length r.split,
+            ap length q.split,
+            length-append r.before r.bad,
+            length-append q.before q.bad,
+          )));
     }
 
 -- A refusal stands behind tokens that begin a tree.
 pub refuses_later : {K T : Type 0} (form : Form K T) (before bad front : List K) (k : K) (tail more : List K) (x : T) →
     Refuses form before bad →
-    before ++ bad ≡ front ++ (k ∷ tail) → form.Good x → form.tokens x ≡ front ++ (k ∷ more) → (rest : List K) × (before ≡ front ++ (k ∷ rest))
-refuses_later {K} form before bad front k tail more x r split good spelled = decide (total (length before) (length front))
+    before ++ bad ≡ front ++ (k ∷ tail) → form.Good x → form.tokens x ≡ front ++ (k ∷ more)
+    → (rest : List K) × (before ≡ front ++ (k ∷ rest))
+refuses_later {K} form before bad front k tail more x r split good spelled =
+    decide (total (length before) (length front))
   where
     same_behind : (d bad : List K) → bad ≡ d ++ (k ∷ tail) → SameStart bad (d ++ (k ∷ more))
     same_behind [] bad e = subst (λ l. SameStart l (k ∷ more)) (sym e) (more, refl)
@@ -222,7 +252,8 @@ refuses_later {K} form before bad front k tail more x r split good spelled = dec
     long [] e is some = absurd (some refl)
     long (y ∷ m) e is some =
         let both : k ∷ tail ≡ y ∷ (m ++ bad) =
-        append_cancel_left front (k ∷ tail) (y ∷ (m ++ bad)) (e ∙ ap (λ l. l ++ bad) is ∙ append_assoc front (y ∷ m) bad) in
+        append_cancel_left front (k ∷ tail) (y ∷ (m ++ bad)) (e ∙ ap (λ l. l ++ bad) is
+        ∙ append_assoc front (y ∷ m) bad) in
         let first : y ≡ k = cc in
         (m, is ∙ ap (λ z. front ++ (z ∷ m)) first)
 
@@ -231,7 +262,8 @@ refuses_later {K} form before bad front k tail more x r split good spelled = dec
     decide (inl le) =
         let cut = splits front (k ∷ tail) before bad (sym split) le in
         absurd (r.never (cut.0 ++ (k ∷ more)) x [] (same_behind cut.0 bad cut.2) good refl
-        (sym (append_assoc before cut.0 (k ∷ more)) ∙ ap (λ l. l ++ (k ∷ more)) (sym cut.1) ∙ sym spelled ∙ sym (append-nil (form.tokens x))))
+        (sym (append_assoc before cut.0 (k ∷ more)) ∙ ap (λ l. l ++ (k ∷ more)) (sym cut.1) ∙ sym spelled
+        ∙ sym (append-nil (form.tokens x))))
     decide (inr le) =
         let cut = splits before bad front (k ∷ tail) split le in
         long cut.0 (sym split) cut.1
@@ -239,3 +271,14 @@ refuses_later {K} form before bad front k tail more x r split good spelled = dec
         let e : before ≡ front = cut.1 ∙ ap (λ l. front ++ l) none ∙ append-nil front in
         r.never (k ∷ more) x [] (same_behind [] bad (sym (cut.2 ∙ ap (λ l. l ++ bad) none))) good refl
         (ap (λ l. l ++ (k ∷ more)) e ∙ sym spelled ∙ sym (append-nil (form.tokens x))))
+
+-- unions of forms, for readers of expressions and declarations
+pub ruleset union_laws = (
+  reads_narrow,
+  refuses_narrow,
+  narrow_missed,
+  reads_second,
+  reads_one,
+  refuses_one,
+  rejects_later,
+)

@@ -13,11 +13,13 @@ use Rattle.hs_forms.proofs.ChainLemmas.{SoFar, chain_first, chain_step, chain_st
 use Rattle.std.proofs.lemmas.Bool.{and_from}
 use Rattle.hs_forms.proofs.LimitLemmas.{and_left, and_right}
 
-module _ {K T H X : Type 0} (c : Chain K T H X) (less : (h : H) (ys zs : List X) → c.form.Good (c.make h (ys ++ zs)) → c.form.Good (c.make h ys)) where
+module _ {K T H X : Type 0} (c : Chain K T H X) (less : (h : H) (ys zs : List X) → c.form.Good (c.make h (ys ++ zs))
+    → c.form.Good (c.make h ys)) where
   chain_on : (h : H) (done xs : List X) (rest : List K) →
       SoFar c.form c.head c.items c.make h done (flat_map c.items xs ++ rest) →
       c.form.Good (c.make h (done ++ xs)) → begins (c.form.extends (c.make h (done ++ xs))) rest ≡ false →
-      ((ys : List X) (x : X) (zs : List X) → xs ≡ ys ++ x ∷ zs → (n : ℕ) → c.item n x → (here : List K) → begins (c.inner x) here ≡ false →
+      ((ys : List X) (x : X) (zs : List X) → xs ≡ ys ++ x ∷ zs → (n : ℕ) → c.item n x → (here : List K)
+      → begins (c.inner x) here ≡ false →
       Reads (item_form c.items c.item c.inner n) x here) →
       Reads c.form (c.make h (done ++ xs)) rest
   chain_on h done [] rest so good q each =
@@ -30,21 +32,25 @@ module _ {K T H X : Type 0} (c : Chain K T H X) (less : (h : H) (ys zs : List X)
       (quiet_inner c.form c.head c.items c.item c.inner c.starter c.make c.laws h done x xs rest good q) in
       let good' = subst (λ l. c.form.Good (c.make h l)) (sym (append_assoc done (x ∷ []) xs)) good in
       let q' = subst (λ l. begins (c.form.extends (c.make h l)) rest ≡ false) (sym (append_assoc done (x ∷ []) xs)) q in
-      let so' = chain_step c.form c.head c.items c.item c.inner c.starter c.make c.laws h done x (flat_map c.items (x ∷ xs) ++ rest)
-      (flat_map c.items xs ++ rest) so (append_assoc (c.items x) (flat_map c.items xs) rest) r (less h (done ++ x ∷ []) xs good') in
+      let so' = chain_step c.form c.head c.items c.item c.inner c.starter c.make c.laws h done x
+      (flat_map c.items (x ∷ xs) ++ rest)
+      (flat_map c.items xs ++ rest) so (append_assoc (c.items x) (flat_map c.items xs) rest) r
+      (less h (done ++ x ∷ []) xs good') in
       subst (λ l. Reads c.form (c.make h l) rest) (append_assoc done (x ∷ []) xs)
       (chain_on h (done ++ x ∷ []) xs rest so' good' q' (λ ys y zs e. each (x ∷ ys) y zs (ap (λ l. x ∷ l) e)))
 
   pub chain_all : (h : H) (xs : List X) (rest : List K) → c.form.Good (c.make h xs) →
       begins (c.form.extends (c.make h xs)) rest ≡ false →
       ((here : List K) → begins (c.head.extends h) here ≡ false → Reads c.head h here) →
-      ((ys : List X) (x : X) (zs : List X) → xs ≡ ys ++ x ∷ zs → (n : ℕ) → c.item n x → (here : List K) → begins (c.inner x) here ≡ false →
+      ((ys : List X) (x : X) (zs : List X) → xs ≡ ys ++ x ∷ zs → (n : ℕ) → c.item n x → (here : List K)
+      → begins (c.inner x) here ≡ false →
       Reads (item_form c.items c.item c.inner n) x here) →
       Reads c.form (c.make h xs) rest
   chain_all h xs rest good q first each =
       chain_on h [] xs rest
       (chain_first c.form c.head c.items c.item c.inner c.starter c.make c.laws h (flat_map c.items xs ++ rest)
-      (first (flat_map c.items xs ++ rest) (quiet_head c.form c.head c.items c.item c.inner c.starter c.make c.laws h xs rest good q)) (less h [] xs good))
+      (first (flat_map c.items xs ++ rest) (quiet_head c.form c.head c.items c.item c.inner c.starter c.make c.laws h xs
+      rest good q)) (less h [] xs good))
       good q each
 
 pub all_less : {X : Type 0} (f : X → Bool) (ys zs : List X) → all_of (map f (ys ++ zs)) ≡ true →

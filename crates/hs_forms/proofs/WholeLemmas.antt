@@ -20,11 +20,13 @@ module _ {K T : Type 0} (form : Form K T) where
   take_begins xs j b = begins_less (take j xs) (drop j xs) (subst (Begins form) (sym (take-append-drop j xs)) b)
 
   place : (ts before bad : List K) → ts ≡ before ++ bad → Begins form before →
-      ((s : List K) (tree : T) → SameStart bad s → form.Good tree → before ++ s ≡ form.tokens tree → ⊥) → IsPlace form ts (length before)
+      ((s : List K) (tree : T) → SameStart bad s → form.Good tree → before ++ s ≡ form.tokens tree → ⊥)
+      → IsPlace form ts (length before)
   place ts before bad split b never = record {
     none = λ tree spelled. never bad tree (same_start_self bad) spelled.1 (sym split ∙ spelled.0);
     within = omega (arith, ap length split, length-append before bad);
-    begun = λ j le. subst (Begins form) (sym (ap (take j) split ∙ take-append-le j before bad le)) (take_begins before j b);
+    begun = λ j le. subst (Begins form) (sym (ap (take j) split ∙ take-append-le j before bad le))
+        (take_begins before j b);
     stuck = λ lt more. at_bad bad split never lt more;
   }
     where
@@ -35,7 +37,8 @@ module _ {K T : Type 0} (form : Form K T) where
       at_bad (b ∷ bad) split never lt (more, tree, spelled) =
           never (b ∷ more) tree (more, refl) spelled.1
           (sym (append_assoc before (b ∷ []) more)
-          ∙ ap (λ l. l ++ more) (sym (ap (take (length before + 1)) split ∙ take-append-add before (b ∷ bad) 1)) ∙ spelled.0)
+          ∙ ap (λ l. l ++ more) (sym (ap (take (length before + 1)) split ∙ take-append-add before (b ∷ bad) 1))
+          ∙ spelled.0)
 
   pub place_of_rejects : (ts : List K) (left : ℕ) → Rejects form ts left →
       (i : ℕ) × (i + left ≡ length ts) × IsPlace form ts i
@@ -62,7 +65,8 @@ module _ {K T : Type 0} (form : Form K T) where
     omega (arith, ap length acc.spelled, length-append (form.tokens tree) rest),
     place ts (form.tokens tree) rest acc.spelled ([], tree, (append-nil (form.tokens tree), acc.reads.good))
         (λ s other same good e.
-        no_rest tree other rest s some same (acc.reads.only s other [] same good refl (e ∙ sym (append-nil (form.tokens other)))).1),
+        no_rest tree other rest s some same (acc.reads.only s other [] same good refl (e
+        ∙ sym (append-nil (form.tokens other)))).1),
   )
 
   -- where the tokens begin a tree
@@ -83,7 +87,11 @@ module _ {K T : Type 0} (form : Form K T) where
 
   pub begun_err : (ts : List K) (left : ℕ) → IsWhole form ts (Err (f.At left)) → IsTrue (nat_eq left 0) ↔ Begins form ts
   begun_err ts zero w = (λ _. begun_at_end ts w.0 (omega (arith, w.1)) w.2, λ _. refl)
-  begun_err ts (suc left) w = (λ h. absurd (let e : nat_eq (suc left) 0 ≡ false = grind (arith, nat_tests) in true≢false (sym h ∙ e)), λ b. absurd (not_begun ts w.0 (omega (arith, w.1)) w.2 b))
+  begun_err ts (suc left) w = (
+    λ h. absurd (let e : nat_eq (suc left) 0 ≡ false = grind (arith, nat_tests) in
+        true≢false (sym h ∙ e)),
+    λ b. absurd (not_begun ts w.0 (omega (arith, w.1)) w.2 b),
+  )
 
   pub begun_err_at : (ts : List K) (e : Fault) (left : ℕ) → e ≡ f.At left → IsWhole form ts (Err e) →
       IsTrue (nat_eq left 0) ↔ Begins form ts

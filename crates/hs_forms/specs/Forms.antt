@@ -64,7 +64,8 @@ either one two = record {
   extends = side one.extends two.extends;
 }
 
--- One token any number of times, fewer than a bound, and a closing one: behind a `(` the name of the unit, without a comma, or of a
+-- One token any number of times, fewer than a bound, and a closing one: behind a `(` the name of the unit, without a
+-- comma, or of a
 -- tuple.
 abbrev pub commas_form : {K : Type 0} → K → K → ℕ → Form K ℕ
 commas_form comma shut bound = record {

@@ -10,7 +10,8 @@ pub record Onto {K A B : Type 0} (a : Form K A) (b : Form K B) (f : A → B) : T
   pub good_back : (x : A) → b.Good (f x) → a.Good x
   pub extends : (x : A) (t : K) → b.extends (f x) t ≡ false → a.extends x t ≡ false
 
--- A production with a fixed front: the trees that begin with it are those made of a part, and the part stands behind it.
+-- A production with a fixed front: the trees that begin with it are those made of a part, and the part stands behind
+-- it.
 pub record Leads {K P T : Type 0} (form : Form K T) (front : List K) (part : Form K P) (make : P → T) : Type 0 where
   pub tokens : (p : P) → form.tokens (make p) ≡ front ++ part.tokens p
   pub good : (p : P) → part.Good p → form.Good (make p)
@@ -21,7 +22,8 @@ pub record Leads {K P T : Type 0} (form : Form K T) (front : List K) (part : For
       (p : P) × (x ≡ make p)
 
 -- A production that is known by its first token: the trees that begin so are those made of a part.
-pub record Variant {K P T : Type 0} (form : Form K T) (part : Form K P) (make : P → T) (starter : K → Bool) : Type 0 where
+pub record Variant {K P T : Type 0} (form : Form K T) (part : Form K P) (make : P → T) (starter : K
+    → Bool) : Type 0 where
   pub tokens : (p : P) → form.tokens (make p) ≡ part.tokens p
   pub good : (p : P) → part.Good p → form.Good (make p)
   pub good_back : (p : P) → form.Good (make p) → part.Good p

@@ -15,7 +15,7 @@ use Rattle.hs_lex.specs.Numbers.{only}
 use Rattle.hs_lex.specs.Lexicon.{capital}
 use Rattle.hs_lex.specs.Longest.{Spelling, Longest, Never}
 use Rattle.hs_lex.specs.Parts.{last_by, IsMore}
-use Rattle.hs_lex.proofs.Runs.{all_prefix, all_past, whole_run, run_ends, ahead_longest, here_longest, end_longest, never_ahead, never_end, over_longest}
+use Rattle.hs_lex.proofs.Runs.{all_prefix, all_past, whole_run, run_ends, ahead_longest, here_longest, never_ahead, over_longest}
 
 -- a whole run of a class, with a test of it all
 abbrev pub whole : (ℕ → Bool) → (List ℕ → Bool) → (List ℕ → Kind) → ℕ → Spelling Kind

@@ -11,7 +11,7 @@ use Rattle.hs_lex.specs.declared.kind.Form.TheVariants as f
 use Rattle.hs_lex.specs.Classes.{is_in, all, begins}
 use Rattle.hs_lex.specs.Numbers.{only, is_run, run_as, is_hexadecimal_letter, is_octal_letter, one_more, is_exponent_letter, is_sign, exponent, fraction, decimal, behind_zero}
 use Rattle.hs_lex.specs.Longest.{Spelling, Longest, Never, Finds, alone}
-use Rattle.hs_lex.proofs.Runs.{run_longest, ahead_longest, here_longest, end_longest, never_ahead, never_end, over_longest, prefix_yes, prefix_no, all_past, run_ends}
+use Rattle.hs_lex.proofs.Runs.{run_longest, ahead_longest, here_longest, never_ahead, over_longest, prefix_yes, prefix_no, all_past, run_ends}
 
 pub prefix_le : (f : ℕ → Bool) (bs : List ℕ) → prefix_len f bs ≤ length bs
 prefix_le f bs = prefix_len-le-length f bs

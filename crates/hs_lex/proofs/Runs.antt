@@ -122,9 +122,6 @@ here_longest g g' b bs x by e none = record {
     go zero le lt = absurd (omega arith)
     go (suc m) le lt = by (take m bs) (drop m bs) ∙ none m (omega arith)
 
-pub end_longest : {A : Type 0} (g : Spelling A) (x : A) → g [] [] ≡ Some x → Longest g [] x 0
-end_longest g x e = record { within = omega arith; spelled = e; longest = λ m le lt. absurd (omega arith) }
-
 pub never_ahead : {A : Type 0} (g g' : Spelling A) (b : ℕ) (bs : List ℕ) → ((ys r : List ℕ) → g (b ∷ ys) r ≡ g' ys r) → g [] (b ∷ bs) ≡ None →
     Never g' bs → Never g (b ∷ bs)
 never_ahead g g' b bs by e none = λ m le. go m le
@@ -132,13 +129,6 @@ never_ahead g g' b bs by e none = λ m le. go m le
     go : (m : ℕ) → m ≤ length (b ∷ bs) → g (take m (b ∷ bs)) (drop m (b ∷ bs)) ≡ None
     go zero le = e
     go (suc m) le = by (take m bs) (drop m bs) ∙ none m (omega arith)
-
-pub never_end : {A : Type 0} (g : Spelling A) → g [] [] ≡ None → Never g []
-never_end g e = λ m le. go m
-  where
-    go : (m : ℕ) → g (take m []) (drop m []) ≡ None
-    go zero = e
-    go (suc m) = e
 
 -- over a run that changes nothing
 pub over_longest : {A : Type 0} (f : ℕ → Bool) (g : Spelling A) (bs : List ℕ) (x : A) (k : ℕ) → ((b : ℕ) (ys r : List ℕ) → f b ≡ true → g (b ∷ ys) r ≡ g ys r) →

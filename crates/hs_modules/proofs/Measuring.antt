@@ -28,9 +28,6 @@ measure_by a d = record { size = a; depth = d }
 same_measure : {a b d e : ℕ} → a ≡ b → d ≡ e → measure_by a d ≡ measure_by b e
 same_measure p q = λ i. measure_by (p i) (q i)
 
-capped_same : {a b d e : ℕ} → a ≡ b → d ≡ e → capped a d ≡ capped b e
-capped_same p q = λ i. capped (p i) (q i)
-
 nothing_capped : nothing ≡ capped 0 0
 unfolding nothing capped
 nothing_capped = refl

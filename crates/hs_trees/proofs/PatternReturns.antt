@@ -1,6 +1,7 @@
 -- The loops of the readers of patterns, over plain variables.
 use Rattle.std.proofs.Common.{◌≡◌, ℕ, ◌+◌, ◌<◌, Bool, true, false, List, [], ◌∷◌, ◌++◌, length, refl, sym, ap, ◌∙◌, subst, append_assoc, true≢false, arith, length-append}
 use Rattle.std.specs.Prelude.{not, ◌||◌, Option}
+use Rattle.std.proofs.lemmas.Bool.{or_left}
 use Rattle.hs_forms.specs.Reading.{Form, begins, Reads, Refuses}
 use Rattle.hs_forms.specs.Limits.{Within, lowered}
 use Rattle.hs_forms.specs.Answers.{Accepts, Rejects, Fails}
@@ -99,16 +100,12 @@ quoted_open n ts next more at con ends = record {
   };
 }
 
-on_left : (b c : Bool) → b ≡ true → b || c ≡ true
-on_left true c e = e
-on_left false c e = absurd (true≢false (sym e))
-
 starts_wide : (ts : Ts) → starts_pat ts ≡ true → begins starts_lpat ts ≡ true
 starts_wide [] h = h
 starts_wide (t.VarSym n ∷ []) h = absurd (true≢false (sym h))
 starts_wide (t.VarSym n ∷ t.Integer m ∷ ts) h = h
 starts_wide (t.VarSym n ∷ k ∷ ts) h = absurd (true≢false (sym h))
-starts_wide (k ∷ ts) h = on_left (starts_apat k) (is_minus k) h
+starts_wide (k ∷ ts) h = or_left (starts_apat k) (is_minus k) h
 
 lpat_begins : (x : LPatTree) → begins starts_lpat (spelling_lpat x) ≡ true
 lpat_begins x = starts_wide (spelling_lpat x) (lpat_starts x)
@@ -226,13 +223,3 @@ no_qconop _ a b c = refl
 pub empty_begins : (f : Terminal → Bool) (ts : Ts) → length ts ≡ 0 → begins f ts ≡ false
 empty_begins f [] e = refl
 empty_begins f (x ∷ ts) e = absurd (omega arith)
-
-pub opens_other : (ts : Ts) → begins opens_name ts ≡ false → opens_pat ts ≡ true
-opens_other ts h = ap (λ b. not b || starts_pat ts) h
-
-pub opens_minus : (ts : Ts) → starts_pat ts ≡ true → opens_pat ts ≡ true
-opens_minus ts h = on_right (not (begins opens_name ts)) (starts_pat ts) h
-  where
-    on_right : (b c : Bool) → c ≡ true → b || c ≡ true
-    on_right true c e = refl
-    on_right false c e = e

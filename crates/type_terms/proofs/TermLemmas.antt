@@ -35,3 +35,12 @@ pub occurs-with_constructors : {C D : Type 0} (g : C → D) (x : ℕ) (t : Term 
 occurs-with_constructors g x (var i) = refl
 occurs-with_constructors g x (con n) = refl
 occurs-with_constructors g x (app f a) = ap₂ ◌||◌ (occurs-with_constructors g x f) (occurs-with_constructors g x a)
+
+-- the algebra of terms, for unification, inference and matching
+pub ruleset term_laws = (
+  applied-itself,
+  applied-applied,
+  with_constructors-twice,
+  with_constructors-applied,
+  occurs-with_constructors,
+)

@@ -17,13 +17,6 @@ pub bounds-new : bounds [] [] ≡ []
 unfolding bounds
 bounds-new = refl
 
--- what is cut back is as it was
-pub take-longer : (old new : List Cell) → IsLonger old new → take (length old) new ≡ old
-take-longer old new g = ap (take (length old)) g.1 ∙ take-append_seam old g.0
-
-pub take-grows : (old new : List (ℕ × ℕ)) → Grows old new → take (length old) new ≡ old
-take-grows old new g = ap (take (length old)) g.1 ∙ take-append_seam old g.0
-
 -- a type that was brought in, with all bindings applied
 pub seen-taken : (old new : List Cell) (es : List (ℕ × ℕ)) (t : Plain) (n : ℕ) → IsTable old es → TakenIn old new t n → seen new es n ≡ resolved (bounds old es) t
 seen-taken old new es t n h k = seen_is new es n ∙ ap₂ resolved (k.extends.same es h) k.is
@@ -68,12 +61,6 @@ Attempted-solved first cs es new t u a b k h = record {
       subst (λ v. IsUnified v (bounds cs new) t u) k.same z;
 }
 
-pub NotSolvable-both : (first cs : List Cell) (es : List (ℕ × ℕ)) (t u : Plain) (a b : ℕ) → Both first cs es t u a b → NotSolvable (bounds cs es) (at (trees cs) a) (at (trees cs) b) → NotSolvable (bounds first es) t u
-NotSolvable-both first cs es t u a b k h =
-    let y = subst (λ v. NotSolvable (bounds cs es) v (at (trees cs) b)) k.left h in
-    let z = subst (λ v. NotSolvable (bounds cs es) t v) k.right y in
-    subst (λ v. NotSolvable v t u) k.same z
-
 pub TakenIn-is : (old new : List Cell) (t u : Plain) (n : ℕ) → TakenIn old new t n → t ≡ u → TakenIn old new u n
 TakenIn-is old new t u n h e = subst (λ v. TakenIn old new v n) e h
 
@@ -90,10 +77,6 @@ length-bounds_after ts bs (e ∷ es) = omega (arith, length-bounds_after ts (bs 
 pub length-bounds : (cs : List Cell) (es : List (ℕ × ℕ)) → length (bounds cs es) ≡ length es
 unfolding bounds
 length-bounds cs es = omega (arith, length-bounds_after (trees cs) [] es)
-
--- cut back to what stood
-pub IsTable-cut : (old new cut : List Cell) (es more back : List (ℕ × ℕ)) → IsTable old es → cut ≡ old → back ≡ es → IsTable cut back
-IsTable-cut old new cut es more back h e f = subst (λ v. IsTable v back) (sym e) (subst (λ w. IsTable old w) (sym f) h)
 
 -- ---- the unknowns that are bound
 

@@ -2,6 +2,7 @@
 use Rattle.std.proofs.Common.{◌≡◌, ℕ, zero, suc, ◌+◌, ◌<◌, ◌≤◌, ◌^◌, Bool, true, false, ◌||◌, List, [], ◌∷◌, ◌++◌, length, Option, Some, None, inl, inr, refl, sym, ap, subst, ◌∙◌, arith, append_assoc, append-nil, true≢false, eq-eqb}
 use Rattle.std.specs.Prelude.{nat_eq}
 use Rattle.std.specs.Map.{lookup}
+use Rattle.std.proofs.lemmas.Bool.{or_from}
 use Rattle.type_terms.specs.Terms.{var, applied, occurs_in, Every}
 use Rattle.type_unify.specs.Types.{Head, bare, Assignment, Equals, Solves, Bound, EveryBound}
 use Rattle.type_unify.specs.declared.cell.Cell.{Cell}
@@ -9,7 +10,7 @@ use Rattle.type_unify.specs.Cells.{at, trees, bounds, seen, hops_in, hops, IsTab
 use Rattle.type_unify.specs.Steps.{AllEqual, EveryPair, AllWithin, Free, Asks}
 use Rattle.type_unify.specs.Outcomes.{HaveNoSolution, Grows, Solved}
 use Rattle.type_unify.specs.Unified.{NotSolvable}
-use Rattle.type_unify.proofs.Solving.{test_cases, or_of_false, applied-replaced, applied-resolved, Solves-front, Solves-last, Solves-push, occurs_unsolvable, Every-replaced, Every-resolved, EveryBound-push}
+use Rattle.type_unify.proofs.Solving.{test_cases, applied-replaced, applied-resolved, Solves-front, Solves-last, Solves-push, occurs_unsolvable, Every-replaced, Every-resolved, EveryBound-push}
 use Rattle.type_unify.proofs.Tables.{Binds, bounds-push, seen-binds, IsTable-bind}
 
 -- ---- how many unknowns are free
@@ -37,7 +38,7 @@ free_unbound (b ∷ bs) x h =
       | inl p ↦ absurd (omega (arith, rw p.1 at h))
       | inr p ↦
           let ne : nat_eq x b.id ≡ false = elim (test_cases x b.id) [ inl e ↦ absurd (true≢false (sym (eq-eqb b.id x (sym e.0)) ∙ p)) | inr e ↦ e ] in
-          or_of_false _ _ ne (free_unbound bs x (rw p at h))
+          or_from _ _ ne (free_unbound bs x (rw p at h))
     ]
 
 one_unless-le : (a b : Bool) → one_unless (a || b) ≤ one_unless a

@@ -1,6 +1,7 @@
 -- Laws of substitutions and of their solutions.
 use Rattle.std.proofs.Common.{◌≡◌, ℕ, ◌+◌, ◌≤◌, Bool, true, false, ◌||◌, List, [], ◌∷◌, ◌++◌, ◌⊎◌, inl, inr, refl, sym, ap, ap₂, ◌∙◌, arith, eqb-true, eq-eqb, true≢false}
 use Rattle.std.specs.Prelude.{nat_eq}
+use Rattle.std.proofs.lemmas.Bool.{or_cases, or_parts, or_from}
 use Rattle.type_terms.specs.Terms.{var, con, app, applied, occurs_in, replaced, Every}
 use Rattle.type_unify.specs.Types.{Plain, rigid, bare, Same, Equals, Assignment, Bound, Solves, resolved, Absent, IsTriangular, Clear, EveryBound, named}
 use Rattle.type_unify.specs.Steps.{size}
@@ -12,18 +13,6 @@ test_cases x i = go (nat_eq x i) refl
     go : (b : Bool) → nat_eq x i ≡ b → (x ≡ i) × (nat_eq x i ≡ true) ⊎ (nat_eq x i ≡ false)
     go true e = inl (eqb-true x i e, e)
     go false e = inr e
-
--- an alternative that is false has two false sides
-pub or_false : (a b : Bool) → (a || b) ≡ false → (a ≡ false) × (b ≡ false)
-or_false true b h = absurd (true≢false h)
-or_false false b h = (refl, h)
-
-pub or_of_false : (a b : Bool) → a ≡ false → b ≡ false → (a || b) ≡ false
-or_of_false a b p q = rw (p, q)
-
-pub or_true : (a b : Bool) → (a || b) ≡ true → (a ≡ true) ⊎ (b ≡ true)
-or_true true b h = inl refl
-or_true false b h = inr h
 
 -- a solution of a binding doesn't see whether it was applied
 pub applied-replaced : (s : Assignment) (x : ℕ) (u t : Plain) → Equals s (var x) u → Equals s (replaced x u t) t
@@ -43,7 +32,7 @@ pub replaced_absent : (x : ℕ) (u t : Plain) → occurs_in x t ≡ false → re
 replaced_absent x u (var i) e = rw e
 replaced_absent x u (con h) e = refl
 replaced_absent x u (app f a) e =
-    let p = or_false (occurs_in x f) (occurs_in x a) e in
+    let p = or_parts (occurs_in x f) (occurs_in x a) e in
     ap₂ app (replaced_absent x u f p.0) (replaced_absent x u a p.1)
 
 -- an unknown that is in neither type is not in the type with the other put in
@@ -52,8 +41,8 @@ occurs_in-replaced y x u (var i) p q =
     elim (test_cases x i) [ inl e ↦ rw e.1 p | inr e ↦ rw e q ]
 occurs_in-replaced y x u (con h) p q = refl
 occurs_in-replaced y x u (app f a) p q =
-    let r = or_false (occurs_in y f) (occurs_in y a) q in
-    or_of_false _ _ (occurs_in-replaced y x u f p r.0) (occurs_in-replaced y x u a p r.1)
+    let r = or_parts (occurs_in y f) (occurs_in y a) q in
+    or_from _ _ (occurs_in-replaced y x u f p r.0) (occurs_in-replaced y x u a p r.1)
 
 -- the unknown itself is gone
 pub occurs_in-replaced_same : (x : ℕ) (u t : Plain) → occurs_in x u ≡ false → occurs_in x (replaced x u t) ≡ false
@@ -61,12 +50,12 @@ occurs_in-replaced_same x u (var i) p =
     elim (test_cases x i) [ inl e ↦ rw e.1 p | inr e ↦ rw e e ]
 occurs_in-replaced_same x u (con h) p = refl
 occurs_in-replaced_same x u (app f a) p =
-    or_of_false _ _ (occurs_in-replaced_same x u f p) (occurs_in-replaced_same x u a p)
+    or_from _ _ (occurs_in-replaced_same x u f p) (occurs_in-replaced_same x u a p)
 
 pub occurs_in-resolved : (y : ℕ) (bs : List Bound) (t : Plain) → Absent y bs → occurs_in y t ≡ false → occurs_in y (resolved bs t) ≡ false
 occurs_in-resolved y [] t h p = p
 occurs_in-resolved y (b ∷ bs) t h p =
-    let q = or_false (nat_eq y b.id) (occurs_in y b.term) h.0 in
+    let q = or_parts (nat_eq y b.id) (occurs_in y b.term) h.0 in
     occurs_in-resolved y bs (replaced b.id b.term t) h.1 (occurs_in-replaced y b.id b.term t q.1 p)
 
 -- no bound unknown is left
@@ -75,18 +64,9 @@ Clear-resolved [] t h = tt
 Clear-resolved (b ∷ bs) t h =
     (occurs_in-resolved b.id bs (replaced b.id b.term t) h.1 (occurs_in-replaced_same b.id b.term t h.0), Clear-resolved bs (replaced b.id b.term t) h.2)
 
--- a type with no bound unknown is resolved
-pub Clear-resolved_id : (bs : List Bound) (t : Plain) → Clear bs t → resolved bs t ≡ t
-Clear-resolved_id [] t h = refl
-Clear-resolved_id (b ∷ bs) t h = ap (resolved bs) (replaced_absent b.id b.term t h.0) ∙ Clear-resolved_id bs t h.1
-
--- resolving twice is resolving once
-pub resolved_twice : (bs : List Bound) (t : Plain) → IsTriangular bs → resolved bs (resolved bs t) ≡ resolved bs t
-resolved_twice bs t h = Clear-resolved_id bs (resolved bs t) (Clear-resolved bs t h)
-
 pub Clear-app : (bs : List Bound) (f a : Plain) → Clear bs f → Clear bs a → Clear bs (app f a)
 Clear-app [] f a p q = tt
-Clear-app (b ∷ bs) f a p q = (or_of_false _ _ p.0 q.0, Clear-app bs f a p.1 q.1)
+Clear-app (b ∷ bs) f a p q = (or_from _ _ p.0 q.0, Clear-app bs f a p.1 q.1)
 
 pub Absent-push : (x : ℕ) (bs : List Bound) (b : Bound) → Absent x bs → occurs_in x (app (var b.id) b.term) ≡ false → Absent x (bs ++ b ∷ [])
 Absent-push x [] b h p = (p, tt)
@@ -139,7 +119,7 @@ applied-solution bs (app f a) = ap₂ app (applied-solution bs f) (applied-solut
 Solves-agree : (x : ℕ) (s s' : Assignment) (bs : List Bound) → Absent x bs → ((t : Plain) → occurs_in x t ≡ false → applied s' t ≡ applied s t) → Solves s bs → Solves s' bs
 Solves-agree x s s' [] a f h = tt
 Solves-agree x s s' (b ∷ bs) a f h =
-    let p = or_false (nat_eq x b.id) (occurs_in x b.term) a.0 in
+    let p = or_parts (nat_eq x b.id) (occurs_in x b.term) a.0 in
     (ap bare (f (var b.id) p.0) ∙ h.0 ∙ sym (ap bare (f b.term p.1)), Solves-agree x s s' bs a.1 f h.1)
 
 -- the bindings have a solution
@@ -165,7 +145,7 @@ size-occurs : (s : Assignment) (x : ℕ) (u : Plain) → occurs_in x u ≡ true 
 size-occurs s x (var i) h = let e : s i ≡ s x = ap s (sym (eqb-true x i h)) in rw e (omega arith)
 size-occurs s x (con c) h = absurd (true≢false (sym h))
 size-occurs s x (app f a) h =
-    elim (or_true (occurs_in x f) (occurs_in x a) h) [
+    elim (or_cases (occurs_in x f) (occurs_in x a) h) [
       | inl p ↦ omega (arith, size-occurs s x f p)
       | inr p ↦ omega (arith, size-occurs s x a p)
     ]
@@ -176,7 +156,7 @@ occurs_unsolvable s x (var i) h n e = n (ap var (sym (eqb-true x i h)))
 occurs_unsolvable s x (con c) h n e = true≢false (sym h)
 occurs_unsolvable s x (app f a) h n e =
     let l : size (s x) ≡ size (applied s f) + size (applied s a) + 1 = size-same (s x) (app (applied s f) (applied s a)) e in
-    elim (or_true (occurs_in x f) (occurs_in x a) h) [
+    elim (or_cases (occurs_in x f) (occurs_in x a) h) [
       | inl p ↦ omega (arith, l, size-occurs s x f p)
       | inr p ↦ omega (arith, l, size-occurs s x a p)
     ]

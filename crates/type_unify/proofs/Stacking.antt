@@ -17,12 +17,6 @@ size-positive (var i) = omega arith
 size-positive (con h) = omega arith
 size-positive (app f a) = omega arith
 
--- a stack from which nothing was popped is empty
-pub popped_none : {X : Type 0} (old new : List X) (n : ℕ) → old ≡ new ++ [] → new ≡ take (n - 1) old → n ≡ 0 → old ≡ []
-popped_none old new n p q e =
-    let z : n - 1 ≡ 0 = omega arith in
-    p ∙ append-nil new ∙ q ∙ ap (λ k. take k old) z
-
 -- ---- numbers
 
 pub occurs_among-push : (x : ℕ) (f : ℕ → Plain) (is : List ℕ) (i : ℕ) → occurs_among x f (is ++ i ∷ []) ≡ (occurs_in x (f i) || occurs_among x f is)
@@ -86,9 +80,6 @@ among-seen f m x n old popped new b e u h = u.same ∙ sym (occurs_among-push x 
 pub among-found : (f : ℕ → Plain) (x n : ℕ) (old popped : List ℕ) (b : Bool) → old ≡ popped ++ n ∷ [] → occurs_in x (f n) ≡ true → occurs_among x f old ≡ b → true ≡ b
 among-found f x n old popped b e o h =
     sym (ap (occurs_among x f) e ∙ occurs_among-push x f popped n ∙ ap (λ c. c || occurs_among x f popped) o) ∙ h
-
-pub among-none : (f : ℕ → Plain) (x : ℕ) (old : List ℕ) (b : Bool) → old ≡ [] → occurs_among x f old ≡ b → false ≡ b
-among-none f x old b e h = sym (ap (occurs_among x f) e) ∙ h
 
 pub sizes-seen : (f : ℕ → Plain) (m x n : ℕ) (old popped new : List ℕ) → old ≡ popped ++ n ∷ [] → Unseen f m x n popped new → sizes f new < sizes f old
 sizes-seen f m x n old popped new e u = let z = ap (sizes f) e in omega (arith, z, u.fewer, sizes-push f popped n)
@@ -202,7 +193,3 @@ join_fewer f old popped t e k =
 pub OnOk-both : {X E P Q R : Type 0} → (r : Result X E) → (P → Q → R) → OnOk r P → OnOk r Q → OnOk r R
 OnOk-both (Ok x) f h k = f h k
 OnOk-both (Err e) f h k = tt
-
-pub IfErr-then : {X E : Type 0} → (P Q : E → Type 0) → (r : Result X E) → ((e : E) → P e → Q e) → IfErr r P → IfErr r Q
-IfErr-then P Q (Ok x) f h = tt
-IfErr-then P Q (Err e) f h = f e h

@@ -133,9 +133,6 @@ HaveNoSolution-clash f old a b n s h = n s (AllEqual-front s f old (a, b) h).1
 
 -- ---- many steps
 
-pub Follows-refl : (f : ℕ → Plain) (m : ℕ) (ps : List (ℕ × ℕ)) → Follows f m ps ps
-Follows-refl f m ps = record { same = λ s. ((λ h. h), (λ h. h)); closed = λ p q h. h; within = λ h. h }
-
 pub Follows-step : (f : ℕ → Plain) (m : ℕ) (first old popped new : List (ℕ × ℕ)) (p : ℕ × ℕ) → Follows f m first old → old ≡ popped ++ p ∷ [] → Reduces f m (popped ++ p ∷ []) new → Follows f m first new
 Follows-step f m first old popped new p h e r = record {
   same = λ s. ((λ k. (r.follows.same s).0 (subst (AllEqual s f) e ((h.same s).0 k))), (λ k. (h.same s).1 (subst (AllEqual s f) (sym e) ((r.follows.same s).1 k))));

@@ -2,6 +2,7 @@
 use Rattle.std.proofs.Common.{◌≡◌, ℕ, zero, suc, ◌+◌, ◌<◌, ◌≤◌, Bool, true, false, cond, List, [], ◌∷◌, ◌++◌, length, get_or, Option, Some, None, ◌⊎◌, inl, inr, refl, sym, ap, ap₂, subst, ◌∙◌, arith, eq-eqb, true≢false, length-append}
 use Rattle.std.specs.Prelude.{nat_eq, if◌then◌else◌}
 use Rattle.std.specs.Map.{lookup}
+use Rattle.std.proofs.lemmas.Bool.{cases_lt}
 use Rattle.type_terms.specs.Terms.{var, con, app, occurs_in, replaced}
 use Rattle.type_unify.specs.Types.{Plain, rigid, Bound, resolved, IsTriangular, Clear, named}
 use Rattle.type_unify.specs.declared.cell.Cell.{Cell}
@@ -131,11 +132,6 @@ PartsBelow m (Rigid i) = Unit {0}
 PartsBelow m (Con n k) = Unit {0}
 PartsBelow m (App f a) = (f < m) × (a < m)
 
-below_or_not : (i n : ℕ) → (i < n) ⊎ (n ≤ i)
-below_or_not i zero = inr (omega arith)
-below_or_not zero (suc n) = inl (omega arith)
-below_or_not (suc i) (suc n) = elim (below_or_not i n) [ inl h ↦ inl (omega (arith, h)) | inr h ↦ inr (omega (arith, h)) ]
-
 Wire-push : (cs : List Cell) (d : Cell) (t : Plain) (c : Cell) → Wire (trees cs) (length cs) t c → Wire (trees (cs ++ d ∷ [])) (length (cs ++ d ∷ [])) t c
 Wire-push cs d t (Flex i) h = h
 Wire-push cs d t (Rigid i) h = h
@@ -153,7 +149,7 @@ Wire-last cs (App f a) h =
 Wired-push : (cs : List Cell) (d : Cell) → PartsBelow (length cs) d
     → ((i : ℕ) (c : Cell) → i < length cs → c ≡ get_or cs i c → Wire (trees cs) (length cs) (at (trees cs) i) c)
     → (i : ℕ) (c : Cell) → i < length (cs ++ d ∷ []) → c ≡ get_or (cs ++ d ∷ []) i c → Wire (trees (cs ++ d ∷ [])) (length (cs ++ d ∷ [])) (at (trees (cs ++ d ∷ [])) i) c
-Wired-push cs d p w i c h e = go (below_or_not i (length cs))
+Wired-push cs d p w i c h e = go (cases_lt i (length cs))
   where
     go : (i < length cs) ⊎ (length cs ≤ i) → Wire (trees (cs ++ d ∷ [])) (length (cs ++ d ∷ [])) (at (trees (cs ++ d ∷ [])) i) c
     go (inl l) =

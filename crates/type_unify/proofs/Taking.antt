@@ -13,14 +13,8 @@ use Rattle.type_unify.specs.Taken.{IsLonger, Extends, Took, TakenIn, joining}
 use Rattle.type_unify.proofs.Tables.{at-push, at-last, bounds-cell, PartsBelow, IsTable-cell}
 use Rattle.type_unify.proofs.Stacking.{Below-push, Below-front}
 
-pub IsLonger-refl : (cs : List Cell) → IsLonger cs cs
-IsLonger-refl cs = ([], sym (append-nil cs))
-
 pub IsLonger-trans : (a b c : List Cell) → IsLonger a b → IsLonger b c → IsLonger a c
 IsLonger-trans a b c p q = (p.0 ++ q.0, q.1 ∙ ap (λ v. v ++ q.0) p.1 ∙ append_assoc a p.0 q.0)
-
-pub Extends-refl : (cs : List Cell) → Extends cs cs
-Extends-refl cs = record { longer = omega arith; keeps = λ i h. refl; stands = λ es h. h; same = λ es h. refl }
 
 pub Extends-trans : (a b c : List Cell) → Extends a b → Extends b c → Extends a c
 Extends-trans a b c p q = record {
@@ -65,35 +59,6 @@ Took-cell node old new before after c e k p r =
           ∙ sym (r (types_of (at (trees old)) before));
     }
 
--- a node that finds too few types leaves the stack
-pub Took-nothing : (b : Bool) (old : List Cell) (before after : List ℕ) → before ≡ [] → after ≡ before → Took (joining b) old old before after
-Took-nothing b old before after e k = record {
-  extends = Extends-refl old;
-  below = λ h. subst (Below (length old)) (sym k) h;
-  types = λ h.
-      let z : types_of (at (trees old)) before ≡ [] = ap (types_of (at (trees old))) e in
-      ap (types_of (at (trees old))) k ∙ z ∙ sym (ap (read_node (joining b)) z ∙ none b);
-}
-  where
-    none : (b : Bool) → read_node (joining b) [] ≡ []
-    none true = refl
-    none false = refl
-
-pub Took-one : (b : Bool) (old : List Cell) (before popped after : List ℕ) (i : ℕ) → before ≡ popped ++ i ∷ [] → popped ≡ [] → after ≡ popped ++ i ∷ [] → Took (joining b) old old before after
-Took-one b old before popped after i e n k =
-    let one : before ≡ i ∷ [] = e ∙ ap (λ r. r ++ i ∷ []) n in
-    record {
-      extends = Extends-refl old;
-      below = λ h. subst (Below (length old)) (e ∙ sym k) h;
-      types = λ h.
-          let z : types_of (at (trees old)) before ≡ at (trees old) i ∷ [] = ap (types_of (at (trees old))) one in
-          ap (types_of (at (trees old))) (k ∙ sym e) ∙ z ∙ sym (ap (read_node (joining b)) z ∙ single b (at (trees old) i));
-    }
-  where
-    single : (b : Bool) (t : Plain) → read_node (joining b) (t ∷ []) ≡ t ∷ []
-    single true t = refl
-    single false t = refl
-
 two_below : (b : Bool) (m : ℕ) (c : Cell) (top below : ℕ) → c ≡ (if b then App top below else App below top) → top < m → below < m → PartsBelow m c
 two_below true m c top below e p q = subst (PartsBelow m) (sym e) (p, q)
 two_below false m c top below e p q = subst (PartsBelow m) (sym e) (q, p)
@@ -131,13 +96,6 @@ pub record Reading (old new : List Cell) (nodes : List Node) (stack : List ℕ) 
   pub below : Below (length new) stack
   pub types : types_of (at (trees new)) stack ≡ read [] nodes
 
-pub Reading-start : (cs : List Cell) (nodes : List Node) (stack : List ℕ) → nodes ≡ [] → stack ≡ [] → Reading cs cs nodes stack
-Reading-start cs nodes stack n e = record {
-  extends = Extends-refl cs;
-  below = subst (Below (length cs)) (sym e) tt;
-  types = ap (types_of (at (trees cs))) e ∙ ap (read []) (sym n);
-}
-
 pub Reading-more : (first old new : List Cell) (nodes more : List Node) (node : Node) (before after : List ℕ) → Reading first old nodes before → Took node old new before after → more ≡ nodes ++ node ∷ [] → Reading first new more after
 Reading-more first old new nodes more node before after r t e = record {
   extends = Extends-trans first old new r.extends t.extends;
@@ -152,21 +110,5 @@ only_one f (i ∷ j ∷ is) t d e =
     let l : length ((types_of f is ++ f j ∷ []) ++ f i ∷ []) ≡ 1 = ap length e in
     absurd (omega (arith, l, length-append (types_of f is ++ f j ∷ []) (f i ∷ []), length-append (types_of f is) (f j ∷ [])))
 
-below_first : (m : ℕ) (is : List ℕ) (d : ℕ) → Below m is → 0 < length is → get_or is 0 d < m
-below_first m [] d h l = absurd (omega arith)
-below_first m (i ∷ is) d h l = h.0
-
 read_whole : (first new : List Cell) (nodes all : List Node) (stack : List ℕ) → Reading first new nodes stack → nodes ≡ all → AreNodesOf all (spelled all) → types_of (at (trees new)) stack ≡ spelled all ∷ []
 read_whole first new nodes all stack r e h = r.types ∙ ap (read []) e ∙ h []
-
-pub one_read : (first new : List Cell) (nodes all : List Node) (stack : List ℕ) → Reading first new nodes stack → nodes ≡ all → AreNodesOf all (spelled all) → 0 < length stack
-one_read first new nodes all stack r e h = (only_one (at (trees new)) stack (spelled all) 0 (read_whole first new nodes all stack r e h)).0
-
-pub TakenIn-read : (first new : List Cell) (nodes all : List Node) (stack : List ℕ) (n : ℕ) → Reading first new nodes stack → nodes ≡ all → AreNodesOf all (spelled all) → n ≡ get_or stack 0 n → TakenIn first new (spelled all) n
-TakenIn-read first new nodes all stack n r e h k =
-    let o = only_one (at (trees new)) stack (spelled all) n (read_whole first new nodes all stack r e h) in
-    record {
-      extends = r.extends;
-      within = subst (λ z. z < length new) (sym k) (below_first (length new) stack n r.below o.0);
-      is = ap (at (trees new)) k ∙ o.1;
-    }

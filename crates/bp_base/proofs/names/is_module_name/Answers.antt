@@ -9,5 +9,6 @@ pub returns : goal.returns
 unfolding is_module_name
 returns c =
     all_from_yields_List (λ part. is_module_part part) _ _ c.all.result c.all.ensures.ran
-    (YieldsList-from_slice_split _ (λ b. b == 46) c.args.text.now c.split.ensures.rest c.split.ensures.done c.split.ensures.closure (λ x r q k. search (rules, tests)))
+    (YieldsList-from_slice_split _ (λ b. b == 46) c.args.text.now c.split.ensures.rest c.split.ensures.done
+    c.split.ensures.closure (λ x r q k. search (rules, tests)))
     (λ x b q k. search (rules, tests))
