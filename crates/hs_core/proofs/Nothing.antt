@@ -1,7 +1,6 @@
 -- Renaming by nothing changes nothing.
 use Rattle.std.proofs.Common.{◌≡◌, List, [], ◌∷◌, refl, ap, sym, ◌∙◌}
 use Rattle.std.specs.Prelude.{map}
-use Rattle.bp_base.proofs.Idents.{unit-is}
 use Rattle.bp_base.specs.Texts.{Text}
 use Rattle.bp_base.specs.declared.ident.Ident.{Ident}
 use Rattle.bp_base.specs.declared.ident.Ident.TheVariants.{Hole, Module, Module'}
@@ -30,6 +29,10 @@ use mathlib.Core.Former.{list_count, this, none_left}
 Module-is : (s : _) (u : OfUnit) (m : Text) → Module u m ≡ Module' s (more_of-Unit u end_of-Unit) m
 unfolding hidden-the_row-Unit-0 hidden
 Module-is s u m = refl
+
+unit-is : (c : Text) (s : List (Unit {0})) (r : Row_of-Fill (list_count this s none_left)) → roll-Unit (record { component = c; fills = shown-the_row-Fill-1 s r }) ≡ Unit' c s r
+unfolding out-Unit roll-Unit out
+unit-is c s r = roll-out-Unit (Unit' c s r)
 
 mutual
   filled-same : (i : Ident) → filled i [] ≡ i
