@@ -7,7 +7,7 @@ use Rattle.bp_base.proofs.Reading.{SoFar-step, SoFar-end, SoFar-none}
 use Rattle.bp_base.proofs.Texts.{same_texts}
 use Rattle.backpack_run.specs.Characters.{is_lower, is_digit, is_text, is_variable_name}
 use Rattle.backpack_run.specs.Source.{LeadsType, atom_of, LeadsBinding, LeadsItem, AreItems}
-use Rattle.backpack_run.specs.Shape.{is_no_equals, is_no_end, LeadsWords, Ends, LeadsShape, IsBuilt, Holds}
+use Rattle.backpack_run.specs.Shape.{is_no_equals, is_no_end, LeadsWords, EndsItem, LeadsShape, IsBuilt, HasNames}
 use Rattle.std.specs.BTreeSet.{BTreeSet}
 use Rattle.backpack_run.proofs.Shaping.{NoShape, ends_run, one_shape}
 use Rattle.hs_plain.specs.declared.plain.Atom.{Atom}
@@ -98,15 +98,15 @@ one_built occ n args words b c p q =
     λ i. bound (o i) (k i) (a i) (t i)
 
 -- what the code has when a token is no atom, and when it has built a value
-pub not_built : (occ : List ℕ) (n : ℕ) (cut words args sliced : Tokens) (set : BTreeSet (List ℕ)) → args ≡ cut → sliced ≡ args → Holds set sliced
-    → ((names : Tokens) → Holds set names → (atoms : List Atom) → map (atom_of names) words ≢ map Some atoms)
+pub not_built : (occ : List ℕ) (n : ℕ) (cut words args sliced : Tokens) (set : BTreeSet (List ℕ)) → args ≡ cut → sliced ≡ args → HasNames set sliced
+    → ((names : Tokens) → HasNames set names → (atoms : List Atom) → map (atom_of names) words ≢ map Some atoms)
     → (b : Binding) → IsBuilt occ n cut words b → ⊥
 not_built occ n cut words args sliced set e f h none b built =
     none sliced h b.atoms (subst (λ (t : Tokens). map (atom_of t) words ≡ map Some b.atoms) (sym (f ∙ e)) built.read)
 
 pub the_built : (occ : List ℕ) (n : ℕ) (cut words args sliced : Tokens) (set : BTreeSet (List ℕ)) (name : List ℕ) (atoms : List Atom) → args ≡ cut → sliced ≡ args
-    → list_all is_variable_name cut ≡ true → AreDistinct sliced → Holds set sliced → words ≢ []
-    → ((names : Tokens) → Holds set names → map (atom_of names) words ≡ map Some atoms) → name ≡ occ
+    → list_all is_variable_name cut ≡ true → AreDistinct sliced → HasNames set sliced → words ≢ []
+    → ((names : Tokens) → HasNames set names → map (atom_of names) words ≡ map Some atoms) → name ≡ occ
     → IsBuilt occ n cut words (bound name n args atoms)
 the_built occ n cut words args sliced set name atoms e f named distinct h some read same = record {
   occ_is = same;
@@ -124,7 +124,7 @@ pub record Shaped (tokens : Tokens) (b : Binding) (rest : Tokens) : Type 0 where
   pub shape : LeadsShape tokens b.occ b.arrows b.args words rest
   pub built : IsBuilt b.occ b.arrows b.args words b
 
-binding_shape : (tokens : Tokens) (b : Binding) (behind rest : Tokens) → LeadsBinding tokens b behind → Ends behind rest → Shaped tokens b rest
+binding_shape : (tokens : Tokens) (b : Binding) (behind rest : Tokens) → LeadsBinding tokens b behind → EndsItem behind rest → Shaped tokens b rest
 binding_shape tokens b behind rest h e =
     let d = h.defined in
     record {

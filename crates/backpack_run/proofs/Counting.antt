@@ -10,7 +10,7 @@ use Rattle.hs_plain.specs.declared.plain.PlainModule.{PlainModule}
 use Rattle.backpack_run.specs.Counts.{Counts}
 use Rattle.backpack_run.specs.Given.{read_target, typed}
 use Rattle.bp_checks.specs.Refused.{Wrong, defect_at}
-use Rattle.backpack_run.specs.Typing.{Entry, entries_of, IsFirstIll}
+use Rattle.backpack_run.specs.Typing.{Assumption, assumptions_of, IsFirstIll}
 use Rattle.backpack_run.proofs.Exact.{IsExact-read}
 
 -- where the module is read, its values are counted
@@ -19,7 +19,7 @@ counted files target m n p (inl (k, q, e)) = e ∙ ap (λ (x : PlainModule). len
 counted files target m n p (inr (r, f, e)) = absurd ((IsExact-read files target).never_both m r p f)
 
 -- where the first ill-typed value stands
-pub ill_within : (globals : List Entry) (bindings : List Binding) (place : ℕ) → IsFirstIll globals bindings place → place < length bindings
+pub ill_within : (globals : List Assumption) (bindings : List Binding) (place : ℕ) → IsFirstIll globals bindings place → place < length bindings
 ill_within globals bindings place f =
     let e = ap length f.parts in
     let n = length-append f.before (f.it ∷ f.after) in
@@ -30,14 +30,14 @@ at_middle : (before : List Binding) (it : Binding) (after : List Binding) (d : B
 at_middle [] it after d = refl
 at_middle (b ∷ before) it after d = at_middle before it after d
 
-pub ill_there : (globals : List Entry) (bindings : List Binding) (place : ℕ) (d : Binding) → (f : IsFirstIll globals bindings place) → get_or bindings place d ≡ f.it
+pub ill_there : (globals : List Assumption) (bindings : List Binding) (place : ℕ) (d : Binding) → (f : IsFirstIll globals bindings place) → get_or bindings place d ≡ f.it
 ill_there globals bindings place d f = rw (f.parts, f.behind) (at_middle f.before f.it f.after d)
 
 -- the value that is found there is the one that is refused
 pub ill_refused : (target : Text) (m : PlainModule) (bindings : List Binding) (place : ℕ) (d : Defect) (b : Binding) → bindings ≡ m.bindings
-    → IsFirstIll (entries_of bindings) bindings place → d ≡ defect_at IllTyped target m.name (Named (get_or bindings place b).occ) → (typed target m).fails (Wrong d)
+    → IsFirstIll (assumptions_of bindings) bindings place → d ≡ defect_at IllTyped target m.name (Named (get_or bindings place b).occ) → (typed target m).fails (Wrong d)
 ill_refused target m bindings place d b e f k =
-    let first = subst (λ (bs : List Binding). IsFirstIll (entries_of bs) bs place) e f in
+    let first = subst (λ (bs : List Binding). IsFirstIll (assumptions_of bs) bs place) e f in
     let there : get_or bindings place b ≡ first.it =
-    ap (λ (bs : List Binding). get_or bs place b) e ∙ ill_there (entries_of m.bindings) m.bindings place b first in
+    ap (λ (bs : List Binding). get_or bs place b) e ∙ ill_there (assumptions_of m.bindings) m.bindings place b first in
     (place, first, ap Wrong (k ∙ ap (λ (x : Binding). defect_at IllTyped target m.name (Named x.occ)) there))

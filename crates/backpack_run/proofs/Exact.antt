@@ -18,9 +18,9 @@ use Rattle.backpack_run.specs.Lexical.{Leads, skip_blanks, Lexes}
 use Rattle.backpack_run.specs.Paths.{project_path, package_path, module_path}
 use Rattle.backpack_run.specs.Project.{IsProject, IsPackage}
 use Rattle.bp_checks.specs.Refused.{Refused, Wrong, defect_at, needed}
-use Rattle.backpack_run.specs.Source.{AreItems, module_tokens, Spells}
+use Rattle.backpack_run.specs.Source.{AreItems, module_tokens, IsSourceOf}
 use Rattle.backpack_run.specs.Stages.{HasFile, IsTooLong, file}
-use Rattle.backpack_run.specs.Typing.{Entry, entries_of, IsTyped, AreTyped}
+use Rattle.backpack_run.specs.Typing.{Assumption, assumptions_of, IsTyped, AreTyped}
 use Rattle.backpack_run.proofs.Building.{item_shape, first_item}
 use Rattle.backpack_run.proofs.Lexing.{lead_len-complete, nothing_left}
 use Rattle.backpack_run.proofs.OneText.{one_flat_text}
@@ -110,7 +110,7 @@ one_list tokens (b ∷ bs) (c ∷ cs) k j =
 abbrev made : Text → List Binding → PlainModule
 made name bs = record { name = name; bindings = bs }
 
-one_module : (source : Text) (m k : PlainModule) → m.name ≡ k.name → Spells m source → Spells k source → m ≡ k
+one_module : (source : Text) (m k : PlainModule) → m.name ≡ k.name → IsSourceOf m source → IsSourceOf k source → m ≡ k
 one_module source m k name p q =
     let e = one_lexing (skip_blanks source) (module_tokens m.name p.items) (module_tokens k.name q.items) p.lexed q.lexed in
     let items : p.items ≡ q.items = cc e in
@@ -119,7 +119,7 @@ one_module source m k name p q =
 
 -- types
 
-one_ill : (globals : List Entry) (before rest : List Binding) (it other : Binding) (after more : List Binding)
+one_ill : (globals : List Assumption) (before rest : List Binding) (it other : Binding) (after more : List Binding)
     → before ++ it ∷ after ≡ rest ++ other ∷ more → AreTyped globals before → AreTyped globals rest
     → (IsTyped globals it → ⊥) → (IsTyped globals other → ⊥) → it ≡ other
 one_ill globals [] [] it other after more e t u n k = cc e
@@ -128,7 +128,7 @@ one_ill globals (b ∷ before) [] it other after more e t u n k = let same : b �
 one_ill globals (b ∷ before) (c ∷ rest) it other after more e t u n k =
     one_ill globals before rest it other after more (cc e) t.1 u.1 n k
 
-not_ill : (globals : List Entry) (before : List Binding) (it : Binding) (after : List Binding) → AreTyped globals (before ++ it ∷ after) → IsTyped globals it
+not_ill : (globals : List Assumption) (before : List Binding) (it : Binding) (after : List Binding) → AreTyped globals (before ++ it ∷ after) → IsTyped globals it
 not_ill globals [] it after t = t.0
 not_ill globals (b ∷ before) it after t = not_ill globals before it after t.1
 
@@ -138,11 +138,11 @@ IsExact-typed name m = record {
   one_refusal = λ r q h k.
       let a = h.1 in
       let b = k.1 in
-      let same : a.it ≡ b.it = one_ill (entries_of m.bindings) a.before b.before a.it b.it a.after b.after (sym a.parts ∙ b.parts) a.typed b.typed a.ill b.ill in
+      let same : a.it ≡ b.it = one_ill (assumptions_of m.bindings) a.before b.before a.it b.it a.after b.after (sym a.parts ∙ b.parts) a.typed b.typed a.ill b.ill in
       h.2 ∙ (ap (λ (x : Binding). Wrong (defect_at IllTyped name m.name (Named x.occ))) same ∙ sym k.2);
   never_both = λ b r p h.
       let a = h.1 in
-      a.ill (not_ill (entries_of m.bindings) a.before a.it a.after (subst (AreTyped (entries_of m.bindings)) a.parts p));
+      a.ill (not_ill (assumptions_of m.bindings) a.before a.it a.after (subst (AreTyped (assumptions_of m.bindings)) a.parts p));
 }
 
 -- the stages
@@ -157,7 +157,7 @@ IsExact-listed files name = IsExact-then (file files (package_path name) [] []) 
 
 IsExact-source : (files : List File) (name at : Text) → IsExact (source files name at)
 IsExact-source files name at = IsExact-then (file files (module_path name at) name at) (in_source name at) (IsExact-file files (module_path name at) name at)
-    (λ content. IsExact-spelled (λ m. (m.name ≡ at) × Spells m content) (defect_at Syntax name at (Offset 0))
+    (λ content. IsExact-spelled (λ m. (m.name ≡ at) × IsSourceOf m content) (defect_at Syntax name at (Offset 0))
     (λ m k p q. one_module content m k (p.0 ∙ sym q.0) p.1 q.1))
 
 IsExact-target : (files : List File) (target : Text) → IsExact (target_module files target)

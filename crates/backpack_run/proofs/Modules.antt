@@ -2,7 +2,7 @@
 use Rattle.std.proofs.Common.{◌≡◌, ◌≢◌, ℕ, List, sym, ap, ◌∙◌, subst, IsTrue}
 use Rattle.bp_base.specs.Lists.{AreDistinct, IsOnly}
 use Rattle.backpack_run.specs.Lexical.{skip_blanks, Lexes}
-use Rattle.backpack_run.specs.Source.{AreItems, all_known, module_tokens, Spells}
+use Rattle.backpack_run.specs.Source.{AreItems, all_known, module_tokens, IsSourceOf}
 use Rattle.hs_plain.specs.Plain.{names_of}
 use Rattle.hs_plain.specs.declared.plain.Binding.{Binding}
 use Rattle.hs_plain.specs.declared.plain.PlainModule.{PlainModule}
@@ -12,7 +12,7 @@ Tokens = List (List ℕ)
 
 -- no module of this name
 abbrev pub NoModule : List ℕ → List ℕ → Type 0
-NoModule source name = (m : PlainModule) → m.name ≡ name → Spells m source → ⊥
+NoModule source name = (m : PlainModule) → m.name ≡ name → IsSourceOf m source → ⊥
 
 -- no name is declared twice, and each name is known
 abbrev pub IsClosed : List Binding → Type 0
@@ -27,7 +27,7 @@ no_frame source name tokens one none m e s =
     none s.items (sym (one.only (module_tokens m.name s.items) s.lexed) ∙ ap (λ (n : List ℕ). module_tokens n s.items) e)
 
 same_items : (source : List ℕ) (tokens items : Tokens) (name : List ℕ) → IsOnly (Lexes (skip_blanks source)) tokens
-    → tokens ≡ module_tokens name items → (m : PlainModule) → (s : Spells m source) → s.items ≡ items
+    → tokens ≡ module_tokens name items → (m : PlainModule) → (s : IsSourceOf m source) → s.items ≡ items
 same_items source tokens items name one framed m s = let e = one.only (module_tokens m.name s.items) s.lexed in cc (e, framed)
 
 pub no_bindings : (source name : List ℕ) (tokens items : Tokens) → IsOnly (Lexes (skip_blanks source)) tokens
@@ -36,7 +36,7 @@ no_bindings source name tokens items one framed none m e s =
     none m.bindings (subst (λ (i : Tokens). AreItems m.bindings i) (same_items source tokens items name one framed m s) s.listed)
 
 same_bindings : (source name : List ℕ) (tokens items : Tokens) (bs : List Binding) → IsOnly (Lexes (skip_blanks source)) tokens
-    → tokens ≡ module_tokens name items → IsOnly (λ l. AreItems l items) bs → (m : PlainModule) → Spells m source → m.bindings ≡ bs
+    → tokens ≡ module_tokens name items → IsOnly (λ l. AreItems l items) bs → (m : PlainModule) → IsSourceOf m source → m.bindings ≡ bs
 same_bindings source name tokens items bs one framed listed m s =
     listed.only m.bindings (subst (λ (i : Tokens). AreItems m.bindings i) (same_items source tokens items name one framed m s) s.listed)
 
@@ -51,7 +51,7 @@ module_of name bs = record { name = name; bindings = bs }
 pub the_module : (source name : List ℕ) (tokens items : Tokens) (bs : List Binding) → IsOnly (Lexes (skip_blanks source)) tokens
     → tokens ≡ module_tokens name items → IsOnly (λ l. AreItems l items) bs → IsClosed bs
     → (at : List ℕ) → at ≡ name
-    → IsOnly (λ (m : PlainModule). (m.name ≡ name) × Spells m source) (module_of at bs)
+    → IsOnly (λ (m : PlainModule). (m.name ≡ name) × IsSourceOf m source) (module_of at bs)
 the_module source name tokens items bs one framed listed closed at same = record {
   holds = (
     same,

@@ -10,7 +10,7 @@ use Rattle.bp_base.proofs.Texts.{same_texts}
 use Rattle.backpack_run.specs.Characters.{is_lower, is_upper, is_digit, is_word_char, is_blank, is_text, is_module_name, is_variable_name}
 use Rattle.backpack_run.specs.Lexical.{skip_blanks}
 use Rattle.bp_base.specs.Lists.{is_among}
-use Rattle.backpack_run.specs.Source.{value_after, number_of, arrows_then, atom_of, LeadsBinding, LeadsItem, AreItems, Spells}
+use Rattle.backpack_run.specs.Source.{value_after, number_of, arrows_then, atom_of, LeadsBinding, LeadsItem, AreItems, IsSourceOf}
 use Rattle.backpack_run.specs.ReadBack.{is_flat_char, starts_flat, is_flat_symbol, LexesFlat, export_tokens, flat_tokens, after_front, plain_token, ReadsBack}
 use Rattle.backpack_run.proofs.Building.{item_shape, first_item}
 use Rattle.backpack_run.proofs.OneReading.{one_reading}
@@ -682,7 +682,7 @@ one_items tokens (b ∷ bs) (c ∷ cs) k j =
     ap (λ (x : List Binding). b ∷ x) (rest ∙ tail) ∙ sym f.1
 
 -- the law
-pub reads_back : (m : PlainModule) (source text : List ℕ) → is_module_name m.name ≡ true → Spells m source → IsFlatText m text → ReadsBack m text
+pub reads_back : (m : PlainModule) (source text : List ℕ) → is_module_name m.name ≡ true → IsSourceOf m source → IsFlatText m text → ReadsBack m text
 reads_back m source text n s f =
     let law = items_lawful m.bindings s.items s.listed in
     let there = items_back m.name m.bindings n law in

@@ -9,7 +9,7 @@ use Rattle.hs_plain.specs.declared.plain.PlainModule.{PlainModule}
 use Rattle.backpack_run.specs.Paths.{package_path}
 use Rattle.backpack_run.specs.Project.{IsProject, IsPackage}
 use Rattle.bp_checks.specs.Refused.{Refused as Refusal, defect_at, spelled}
-use Rattle.backpack_run.specs.Source.{Spells}
+use Rattle.backpack_run.specs.Source.{IsSourceOf}
 use Rattle.backpack_run.specs.Stages.{HasFile, file}
 use Rattle.bp_checks.specs.Stop.{OnStop}
 use Rattle.bp_checks.specs.declared.stop.Stop.{Stop}
@@ -23,7 +23,7 @@ abbrev pub in_package : Text → Text → Check Text Refusal
 in_package name content = spelled (IsPackage content name) (defect_at ComponentSyntax (package_path name) [] (Line 1))
 
 abbrev pub in_source : Text → Text → Text → Check PlainModule Refusal
-in_source name at content = spelled (λ m. (m.name ≡ at) × Spells m content) (defect_at Syntax name at (Offset 0))
+in_source name at content = spelled (λ m. (m.name ≡ at) × IsSourceOf m content) (defect_at Syntax name at (Offset 0))
 
 -- a check that begins with a file, which was read at a path that is the same
 module _ {B : Type 0} (files : List File) (path component at : Text) (next : Text → Check B Refusal) where

@@ -12,7 +12,7 @@ use Rattle.std.proofs.lemmas.List.Folds.{list_any_more}
 use Rattle.bp_base.specs.Lists.{Among, AreDistinct, is_among}
 use Rattle.bp_base.proofs.Texts.{same_texts, other_texts, tied_texts, not_before_itself}
 use Rattle.bp_base.proofs.Sets.{is_among-there, there-is_among, distinct-push, distinct-twice}
-use Rattle.backpack_run.specs.Shape.{Holds}
+use Rattle.backpack_run.specs.Shape.{HasNames}
 
 -- the test by the order is the test by the bytes
 pub tied_same : (a b : List ℕ) → is_eq (slice_cmp nat_cmp a b) ≡ bytes_eq b a
@@ -38,7 +38,7 @@ split_at xs i x h e = sym (take-append-drop i xs) ∙ ap (λ (t : List (List ℕ
 
 -- a name that the set holds already stands twice
 pub twice : (names : List (List ℕ)) (i : ℕ) (item name : List ℕ) (set : BTreeSet (List ℕ)) (added : Bool) → i < length names → item ≡ get_or names i item
-    → name ≡ item → Holds set (take i names) → added ≡ not (contains (slice_cmp nat_cmp) set name) → added ≡ false → AreDistinct names → ⊥
+    → name ≡ item → HasNames set (take i names) → added ≡ not (contains (slice_cmp nat_cmp) set name) → added ≡ false → AreDistinct names → ⊥
 twice names i item name set added h e same holds a f d =
     distinct-twice (take i names) (drop (i + 1) names) item
     (is_among-there item (take i names) (subst (λ (n : List ℕ). is_among n (take i names) ≡ true) same (sym (holds name) ∙ held (contains (slice_cmp nat_cmp) set name) (sym a ∙ f))))
@@ -52,7 +52,7 @@ twice names i item name set added h e same holds a f d =
 pub set_more : (names : List (List ℕ)) (i : ℕ) (item name : List ℕ) (old new : BTreeSet (List ℕ)) (added : Bool) → i < length names → item ≡ get_or names i item
     → name ≡ item → ((q : List ℕ) → contains (slice_cmp nat_cmp) new q ≡ cond (is_eq (slice_cmp nat_cmp name q)) true (contains (slice_cmp nat_cmp) old q))
     → added ≡ not (contains (slice_cmp nat_cmp) old name) → added ≡ true
-    → Holds old (take i names) × AreDistinct (take i names) → Holds new (take (i + 1) names) × AreDistinct (take (i + 1) names)
+    → HasNames old (take i names) × AreDistinct (take i names) → HasNames new (take (i + 1) names) × AreDistinct (take (i + 1) names)
 set_more names i item name old new added h e same up a t (holds, d) = (holding, subst AreDistinct (sym one_more) (distinct-push (take i names) item d fresh))
   where
     one_more : take (i + 1) names ≡ take i names ++ item ∷ []
@@ -77,7 +77,7 @@ set_more names i item name old new added h e same up a t (holds, d) = (holding, 
     last : (q : List ℕ) → is_among q (take (i + 1) names) ≡ is_among q (take i names) || bytes_eq q item
     last q = list_any_more (bytes_eq q) names i item h ∙ ap (λ (y : List ℕ). is_among q (take i names) || bytes_eq q y) (sym e)
 
-    holding : Holds new (take (i + 1) names)
+    holding : HasNames new (take (i + 1) names)
     holding q =
         up q ∙ (pick (is_eq (slice_cmp nat_cmp name q)) (contains (slice_cmp nat_cmp) old q)
         ∙ ((λ j. holds q j || tied_same name q j) ∙ (ap (λ (y : List ℕ). is_among q (take i names) || bytes_eq q y) same ∙ sym (last q))))

@@ -2,7 +2,7 @@
 use Rattle.std.proofs.Common.{refl, sym, ap, ◌∙◌, subst, ◌≡◌, ◌≢◌, inl, inr, ℕ, zero, suc, ◌+◌, ◌-◌, ◌<◌, ◌≤◌, false, List, [], ◌∷◌, ◌++◌, length, get_or, take, drop, codes, arith, add-one, length-append}
 use Rattle.std.proofs.lemmas.List.{take-append-drop, take_rest}
 use Rattle.backpack_run.specs.Source.{arrows_then, LeadsType}
-use Rattle.backpack_run.specs.Shape.{run_len, first_passes, is_no_equals, is_no_end, LeadsWords, Ends, LeadsShape}
+use Rattle.backpack_run.specs.Shape.{run_len, first_passes, is_no_equals, is_no_end, LeadsWords, EndsItem, LeadsShape}
 use Rattle.backpack_run.proofs.Runs.{run_len-all, run_len-stop, run_front, run_back}
 
 abbrev Tokens : Type 0
@@ -105,13 +105,13 @@ other_ends : (rest : Tokens) → codes ";" ∷ rest ≡ codes "}" ∷ [] → ⊥
 other_ends rest e = grind arith
 
 -- one end stands there
-pub one_end : (tokens rest more : Tokens) → Ends tokens rest → Ends tokens more → rest ≡ more
+pub one_end : (tokens rest more : Tokens) → EndsItem tokens rest → EndsItem tokens more → rest ≡ more
 one_end tokens rest more (inl e) (inl f) = cc (e, f)
 one_end tokens rest more (inl e) (inr f) = absurd (other_ends rest (sym e ∙ (f.1 ∙ f.0)))
 one_end tokens rest more (inr e) (inl f) = absurd (other_ends more (sym f ∙ (e.1 ∙ e.0)))
 one_end tokens rest more (inr e) (inr f) = sym e.1 ∙ f.1
 
-pub ends_run : (tokens rest : Tokens) → Ends tokens rest → first_passes is_no_end tokens ≡ false
+pub ends_run : (tokens rest : Tokens) → EndsItem tokens rest → first_passes is_no_end tokens ≡ false
 ends_run tokens rest (inl e) = rw e refl
 ends_run tokens rest (inr e) = rw (e.1, e.0) refl
 
@@ -137,7 +137,7 @@ one_shape tokens occ n args words rest other m others wordings more p q =
       arrows_are = t.arrows_are;
       args_are = c.args_are;
       words_are = c.words_are;
-      rest_is = one_end p.behind rest more p.ends (subst (λ (b : Tokens). Ends b more) (sym c.rest_is) q.ends);
+      rest_is = one_end p.behind rest more p.ends (subst (λ (b : Tokens). EndsItem b more) (sym c.rest_is) q.ends);
     }
 
 -- one arrow more is read
@@ -173,16 +173,16 @@ pub no_clause : (tokens : Tokens) (occ : List ℕ) (n : ℕ) (rest : Tokens) →
 no_clause tokens occ n rest t none other m args words more s = none args words s.behind (cut_there tokens occ n rest t other m args words more s)
 
 pub no_end_of : (tokens : Tokens) (occ : List ℕ) (n : ℕ) (rest args words behind : Tokens) → LeadsType tokens occ n rest → LeadsWords rest occ args words behind
-    → ((more : Tokens) → Ends behind more → ⊥) → NoShape tokens
+    → ((more : Tokens) → EndsItem behind more → ⊥) → NoShape tokens
 no_end_of tokens occ n rest args words behind t w none other m others wordings more s =
     let k = one_clause rest occ others wordings s.behind args words behind (cut_there tokens occ n rest t other m others wordings more s) w in
-    none more (subst (λ (b : Tokens). Ends b more) k.rest_is s.ends)
+    none more (subst (λ (b : Tokens). EndsItem b more) k.rest_is s.ends)
 
 arrows_longer : (n : ℕ) (rest : Tokens) → length rest ≤ length (arrows_then n rest)
 arrows_longer zero rest = omega arith
 arrows_longer (suc n) rest = let k = arrows_longer n rest in omega (arith, k)
 
-ends_shorter : (tokens rest : Tokens) → Ends tokens rest → length rest ≤ length tokens
+ends_shorter : (tokens rest : Tokens) → EndsItem tokens rest → length rest ≤ length tokens
 ends_shorter tokens rest (inl e) = rw e (omega arith)
 ends_shorter tokens rest (inr e) = rw e.1 (omega arith)
 
@@ -210,6 +210,6 @@ words_cut tokens occ after right n m e v w f =
     rw (take_rest right m, v, w) (words_stand tokens occ after right e g)
 
 pub behind_shorter : (tokens : Tokens) (occ : List ℕ) (n : ℕ) (rest args words behind more : Tokens) → LeadsType tokens occ n rest
-    → LeadsWords rest occ args words behind → Ends behind more → length more < length tokens
+    → LeadsWords rest occ args words behind → EndsItem behind more → length more < length tokens
 behind_shorter tokens occ n rest args words behind more t w e =
     shape_shorter tokens occ n args words more (record { between = rest; behind = behind; typed = t; cut = w; ends = e })
