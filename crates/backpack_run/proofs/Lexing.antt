@@ -1,5 +1,6 @@
 -- The token at the front of a text.
-use Rattle.std.proofs.Common.{suc, zero, ◌≡◌, ◌⊎◌, inl, inr, ℕ, ◌<◌, ◌≤◌, Bool, true, false, ◌&&◌, ◌||◌, List, [], ◌∷◌, ◌++◌, length, take, drop, codes, refl, sym, ap, ◌∙◌, subst, arith, add-one, length-append}
+use Rattle.std.proofs.Common.{suc, zero, ◌≡◌, ◌⊎◌, inl, inr, ℕ, ◌<◌, ◌≤◌, Bool, true, false, ◌&&◌, ◌||◌, List, [], ◌∷◌}
+use Rattle.std.proofs.Common.{◌++◌, length, take, drop, codes, refl, sym, ap, ◌∙◌, subst, arith, add-one, length-append}
 use Rattle.std.specs.List.{list_all}
 use Rattle.std.proofs.lemmas.Bool.Decides.{nat_tests}
 use Rattle.std.proofs.lemmas.Grind.{common_steps}
@@ -14,12 +15,14 @@ use Rattle.backpack_run.specs.Lexical.{starts_word, is_symbol, IsToken, Leads, s
 use Rattle.backpack_run.specs.Lead.{word_len, symbol_len, lead_len}
 
 -- the symbols are no letters or digits
-no_words : (is_word_char 123 ≡ false) × (is_word_char 125 ≡ false) × (is_word_char 59 ≡ false) × (is_word_char 58 ≡ false) × (is_word_char 61 ≡ false) × (is_word_char 45 ≡ false)
+no_words : (is_word_char 123 ≡ false) × (is_word_char 125 ≡ false) × (is_word_char 59 ≡ false)
+    × (is_word_char 58 ≡ false) × (is_word_char 61 ≡ false) × (is_word_char 45 ≡ false)
 unfolding is_word_char is_lower is_upper is_digit
 no_words = (refl, refl, refl, refl, refl, refl)
 
 -- a run of letters and digits is as long as it is
-word_len-run : (text rest : List ℕ) → list_all is_word_char text ≡ true → starts_word rest ≡ false → word_len (text ++ rest) ≡ length text
+word_len-run : (text rest : List ℕ) → list_all is_word_char text ≡ true → starts_word rest ≡ false
+    → word_len (text ++ rest) ≡ length text
 word_len-run [] [] h s = refl
 word_len-run [] (r ∷ rest) h s = rw s refl
 word_len-run (b ∷ bs) rest h s = grind (arith, common_steps, word_len-run bs rest)
@@ -68,7 +71,11 @@ lead_len-symbol text rest h = elim (or_cases ((((a || b) || c) || d) || g) e h) 
   | inl h5 ↦ elim (or_cases (((a || b) || c) || d) g h5) [
     | inl h4 ↦ elim (or_cases ((a || b) || c) d h4) [
       | inl h3 ↦ elim (or_cases (a || b) c h3) [
-        | inl h2 ↦ elim (or_cases a b h2) [ inl h1 ↦ at (codes "{") h1 (open_len rest) | inr h1 ↦ at (codes "}") h1 (close_len rest) ]
+        | inl h2 ↦ elim (or_cases a b h2) [
+          | inl h1 ↦ at (codes "{") h1 (open_len rest)
+          | inr h1 ↦
+              at (codes "}") h1 (close_len rest)
+        ]
         | inr h2 ↦ at (codes ";") h2 (semicolon_len rest)
       ]
       | inr h3 ↦ at (codes "::") h3 (type_len rest)
@@ -96,7 +103,8 @@ lead_len-symbol text rest h = elim (or_cases ((((a || b) || c) || d) || g) e h) 
     e : Bool
     e = is_text text (codes "=")
 
-    at : (known : List ℕ) → is_text text known ≡ true → lead_len (known ++ rest) ≡ length known → lead_len (text ++ rest) ≡ length text
+    at : (known : List ℕ) → is_text text known ≡ true → lead_len (known ++ rest) ≡ length known
+        → lead_len (text ++ rest) ≡ length text
     at known same e = subst (λ (t : List ℕ). lead_len (t ++ rest) ≡ length t) (sym (same_texts text known same)) e
 
 symbol_len-sound : (text : List ℕ) → 0 < symbol_len text → is_symbol (take (symbol_len text) text) ≡ true
@@ -111,7 +119,8 @@ nonempty [] h = absurd (cc)
 nonempty (b ∷ bs) h = omega arith
 
 -- the token that is computed stands there
-pub lead_len-sound : (source : List ℕ) → 0 < lead_len source → Leads source (take (lead_len source) source) (drop (lead_len source) source)
+pub lead_len-sound : (source : List ℕ) → 0 < lead_len source
+    → Leads source (take (lead_len source) source) (drop (lead_len source) source)
 lead_len-sound source h = (sym (take-append-drop (lead_len source) source), token (word_len source) refl)
   where
     token : (n : ℕ) → n ≡ word_len source → IsToken (take (lead_len source) source) (drop (lead_len source) source)
@@ -138,7 +147,8 @@ token_nonempty [] rest (inr s) = absurd (cc s)
 token_nonempty (b ∷ bs) rest h = omega arith
 
 lex_from : (source : List ℕ) → 0 < length source → (more : List (List ℕ)) → Lexes source more
-    → (m : List (List ℕ)) × (more ≡ take (lead_len source) source ∷ m) × Lexes (skip_blanks (drop (lead_len source) source)) m
+    → (m : List (List ℕ)) × (more ≡ take (lead_len source) source ∷ m)
+    × Lexes (skip_blanks (drop (lead_len source) source)) m
 lex_from source p [] e = absurd (omega (arith, ap length e))
 lex_from source p (t ∷ ts) (rest, leads, k) =
     let n : lead_len source ≡ length t = lead_len-complete source t rest leads in
@@ -158,7 +168,8 @@ lex_step start rest next text done after p q e f g so = rw (g, f, e)
     (SoFar-step Lexes start rest (skip_blanks (drop (lead_len rest) rest)) done (take (lead_len rest) rest)
     (λ more h. (drop (lead_len rest) rest, lead_len-sound rest q, h)) (lex_from rest p) so)
 
-pub lex_stuck : (start rest : List ℕ) (done : List (List ℕ)) → 0 < length rest → lead_len rest ≡ 0 → SoFar Lexes start rest done
+pub lex_stuck : (start rest : List ℕ) (done : List (List ℕ)) → 0 < length rest → lead_len rest ≡ 0
+    → SoFar Lexes start rest done
     → (all : List (List ℕ)) → Lexes start all → ⊥
 lex_stuck start rest done p z so = SoFar-none Lexes start rest done (lex_none rest p z) so
 
@@ -167,6 +178,7 @@ nothing_left [] h = refl
 nothing_left (t ∷ ts) (rest, leads, k) =
     absurd (omega (arith, simp length-append at (ap length leads.0), token_nonempty t rest leads.1))
 
-pub lex_end : (start rest : List ℕ) (done : List (List ℕ)) → length rest ≡ 0 → SoFar Lexes start rest done → IsOnly (Lexes start) done
+pub lex_end : (start rest : List ℕ) (done : List (List ℕ)) → length rest ≡ 0 → SoFar Lexes start rest done
+    → IsOnly (Lexes start) done
 lex_end start [] done z so = SoFar-end Lexes start [] done refl nothing_left so
 lex_end start (b ∷ bs) done z so = absurd (omega arith)

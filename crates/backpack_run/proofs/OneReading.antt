@@ -1,5 +1,6 @@
 -- A flat text has one reading as tokens.
-use Rattle.std.proofs.Common.{refl, sym, ap, ◌∙◌, subst, ◌≡◌, ◌≢◌, ◌⊎◌, inl, inr, ℕ, Bool, true, false, ◌&&◌, ◌||◌, ◌==◌, List, [], ◌∷◌, ◌++◌, codes, if◌then◌else◌}
+use Rattle.std.proofs.Common.{refl, sym, ap, ◌∙◌, subst, ◌≡◌, ◌≢◌, ◌⊎◌, inl, inr, ℕ, Bool, true, false, ◌&&◌, ◌||◌}
+use Rattle.std.proofs.Common.{◌==◌, List, [], ◌∷◌, ◌++◌, codes, if◌then◌else◌}
 use Rattle.std.specs.List.{list_all}
 use Rattle.std.proofs.lemmas.List.{append_cancel_left}
 use Rattle.std.proofs.lemmas.Bool.{and_parts, or_cases}
@@ -22,7 +23,9 @@ record IsSymbol (text : List ℕ) : Type 0 where
   known : first ∷ more ≡ symbol_of first
   no_flat : is_flat_char first ≡ false
 
-no_flats : (is_flat_char 40 ≡ false) × (is_flat_char 41 ≡ false) × (is_flat_char 44 ≡ false) × (is_flat_char 45 ≡ false) × (is_flat_char 58 ≡ false) × (is_flat_char 59 ≡ false) × (is_flat_char 61 ≡ false) × (is_flat_char 123 ≡ false) × (is_flat_char 125 ≡ false)
+no_flats : (is_flat_char 40 ≡ false) × (is_flat_char 41 ≡ false) × (is_flat_char 44 ≡ false) × (is_flat_char 45 ≡ false)
+    × (is_flat_char 58 ≡ false) × (is_flat_char 59 ≡ false) × (is_flat_char 61 ≡ false) × (is_flat_char 123 ≡ false)
+    × (is_flat_char 125 ≡ false)
 unfolding is_flat_char is_word_char is_lower is_upper is_digit
 no_flats = (refl, refl, refl, refl, refl, refl, refl, refl, refl)
 
@@ -30,34 +33,92 @@ is : (text known : List ℕ) → is_text text known ≡ true → IsSymbol known 
 is text known h s = subst IsSymbol (sym (same_texts text known h)) s
 
 plain_symbol : (text : List ℕ) → is_symbol text ≡ true → IsSymbol text
-plain_symbol text h = elim (or_cases (((((is_text text (codes "{") || is_text text (codes "}")) || is_text text (codes ";")) || is_text text (codes "::")) || is_text text (codes "->"))) (is_text text (codes "=")) h) [
-  | inl h5 ↦ elim (or_cases ((((is_text text (codes "{") || is_text text (codes "}")) || is_text text (codes ";")) || is_text text (codes "::"))) (is_text text (codes "->")) h5) [
-    | inl h4 ↦ elim (or_cases (((is_text text (codes "{") || is_text text (codes "}")) || is_text text (codes ";"))) (is_text text (codes "::")) h4) [
-      | inl h3 ↦ elim (or_cases (is_text text (codes "{") || is_text text (codes "}")) (is_text text (codes ";")) h3) [
-        | inl h2 ↦ elim (or_cases (is_text text (codes "{")) (is_text text (codes "}")) h2) [
-          | inl h1 ↦ is text (codes "{") h1 (record { first = 123; more = []; text_is = refl; known = refl; no_flat = no_flats.7 })
-          | inr h1 ↦ is text (codes "}") h1 (record { first = 125; more = []; text_is = refl; known = refl; no_flat = no_flats.8 })
-        ]
-        | inr h2 ↦ is text (codes ";") h2 (record { first = 59; more = []; text_is = refl; known = refl; no_flat = no_flats.5 })
-      ]
-      | inr h3 ↦ is text (codes "::") h3 (record { first = 58; more = 58 ∷ []; text_is = refl; known = refl; no_flat = no_flats.4 })
+plain_symbol text h = elim (or_cases (((((is_text text (codes "{") || is_text text (codes "}")) || is_text text
+    (codes ";")) || is_text text (codes "::")) || is_text text (codes "->"))) (is_text text (codes "=")) h) [
+      | inl h5 ↦ elim (or_cases ((((is_text text (codes "{") || is_text text (codes "}")) || is_text text (codes ";")) ||
+          is_text text (codes "::"))) (is_text text (codes "->")) h5) [
+            | inl h4 ↦ elim (or_cases (((is_text text (codes "{") || is_text text (codes "}")) || is_text text (codes ";")))
+                (is_text text (codes "::")) h4) [
+                  | inl h3 ↦ elim (or_cases (is_text text (codes "{") || is_text text (codes "}")) (is_text text (codes ";")) h3) [
+                    | inl h2 ↦ elim (or_cases (is_text text (codes "{")) (is_text text (codes "}")) h2) [
+                      | inl h1 ↦ is text (codes "{") h1 (record {
+                        first = 123;
+                        more = [];
+                        text_is = refl;
+                        known = refl;
+                        no_flat = no_flats.7;
+                      })
+                      | inr h1 ↦ is text (codes "}") h1 (record {
+                        first = 125;
+                        more = [];
+                        text_is = refl;
+                        known = refl;
+                        no_flat = no_flats.8;
+                      })
+                    ]
+                    | inr h2 ↦ is text (codes ";") h2 (record {
+                      first = 59;
+                      more = [];
+                      text_is = refl;
+                      known = refl;
+                      no_flat = no_flats.5;
+                    })
+                  ]
+                  | inr h3 ↦ is text (codes "::") h3 (record {
+                    first = 58;
+                    more = 58 ∷ [];
+                    text_is = refl;
+                    known = refl;
+                    no_flat = no_flats.4;
+                  })
+                ]
+            | inr h4 ↦ is text (codes "->") h4 (record {
+              first = 45;
+              more = 62 ∷ [];
+              text_is = refl;
+              known = refl;
+              no_flat = no_flats.3;
+            })
+          ]
+      | inr h5 ↦ is text (codes "=") h5 (record {
+        first = 61;
+        more = [];
+        text_is = refl;
+        known = refl;
+        no_flat = no_flats.6;
+      })
     ]
-    | inr h4 ↦ is text (codes "->") h4 (record { first = 45; more = 62 ∷ []; text_is = refl; known = refl; no_flat = no_flats.3 })
-  ]
-  | inr h5 ↦ is text (codes "=") h5 (record { first = 61; more = []; text_is = refl; known = refl; no_flat = no_flats.6 })
-]
 
 flat_symbol : (text : List ℕ) → is_flat_symbol text ≡ true → IsSymbol text
-flat_symbol text h = elim (or_cases ((is_symbol text || is_text text (codes "(")) || is_text text (codes ")")) (is_text text (codes ",")) h) [
-  | inl h2 ↦ elim (or_cases (is_symbol text || is_text text (codes "(")) (is_text text (codes ")")) h2) [
-    | inl h1 ↦ elim (or_cases (is_symbol text) (is_text text (codes "(")) h1) [
-      | inl h0 ↦ plain_symbol text h0
-      | inr h0 ↦ is text (codes "(") h0 (record { first = 40; more = []; text_is = refl; known = refl; no_flat = no_flats.0 })
+flat_symbol text h = elim (or_cases ((is_symbol text || is_text text (codes "(")) || is_text text (codes ")"))
+    (is_text text (codes ",")) h) [
+      | inl h2 ↦ elim (or_cases (is_symbol text || is_text text (codes "(")) (is_text text (codes ")")) h2) [
+        | inl h1 ↦ elim (or_cases (is_symbol text) (is_text text (codes "(")) h1) [
+          | inl h0 ↦ plain_symbol text h0
+          | inr h0 ↦ is text (codes "(") h0 (record {
+            first = 40;
+            more = [];
+            text_is = refl;
+            known = refl;
+            no_flat = no_flats.0;
+          })
+        ]
+        | inr h1 ↦ is text (codes ")") h1 (record {
+          first = 41;
+          more = [];
+          text_is = refl;
+          known = refl;
+          no_flat = no_flats.1;
+        })
+      ]
+      | inr h2 ↦ is text (codes ",") h2 (record {
+        first = 44;
+        more = [];
+        text_is = refl;
+        known = refl;
+        no_flat = no_flats.2;
+      })
     ]
-    | inr h1 ↦ is text (codes ")") h1 (record { first = 41; more = []; text_is = refl; known = refl; no_flat = no_flats.1 })
-  ]
-  | inr h2 ↦ is text (codes ",") h2 (record { first = 44; more = []; text_is = refl; known = refl; no_flat = no_flats.2 })
-]
 
 starts_same : (text : List ℕ) → starts_flat text ≡ false → first_passes is_flat_char text ≡ false
 starts_same [] h = refl
@@ -67,14 +128,17 @@ one_symbol : (a b : List ℕ) (c d : ℕ) → a ≡ symbol_of c → b ≡ symbol
 one_symbol a b c d p q e = p ∙ (ap symbol_of e ∙ sym q)
 
 -- one token stands at the front
-one_token : (text rest other more : List ℕ) → text ++ rest ≡ other ++ more → IsFlatToken text rest → IsFlatToken other more → (text ≡ other) × (rest ≡ more)
+one_token : (text rest other more : List ℕ) → text ++ rest ≡ other ++ more → IsFlatToken text rest
+    → IsFlatToken other more → (text ≡ other) × (rest ≡ more)
 one_token text rest other more e (inl w) (inl v) =
     let a = (and_parts (starts_flat text) (list_all is_flat_char text) w.0).1 in
     let b = (and_parts (starts_flat other) (list_all is_flat_char other) v.0).1 in
     let s = starts_same rest w.1 in
     let t = starts_same more v.1 in (
-      sym (run_front is_flat_char (text ++ rest) text rest refl a s) ∙ run_front is_flat_char (text ++ rest) other more e b t,
-      sym (run_back is_flat_char (text ++ rest) text rest refl a s) ∙ run_back is_flat_char (text ++ rest) other more e b t,
+      sym (run_front is_flat_char (text ++ rest) text rest refl a s)
+          ∙ run_front is_flat_char (text ++ rest) other more e b t,
+      sym (run_back is_flat_char (text ++ rest) text rest refl a s)
+          ∙ run_back is_flat_char (text ++ rest) other more e b t,
     )
 one_token [] rest other more e (inl w) (inr v) = absurd (cc w.0)
 one_token (b ∷ bs) rest other more e (inl w) (inr v) =
@@ -91,7 +155,11 @@ one_token text rest (b ∷ bs) more e (inr w) (inl v) =
 one_token text rest other more e (inr w) (inr v) =
     let s = flat_symbol text w in
     let t = flat_symbol other v in
-    let g : s.first ≡ t.first = cc (e, ap (λ (x : List ℕ). x ++ rest) s.text_is, ap (λ (x : List ℕ). x ++ more) t.text_is) in
+    let g : s.first ≡ t.first = cc (
+      e,
+      ap (λ (x : List ℕ). x ++ rest) s.text_is,
+      ap (λ (x : List ℕ). x ++ more) t.text_is,
+    ) in
     let same : text ≡ other = one_symbol text other s.first t.first (s.text_is ∙ s.known) (t.text_is ∙ t.known) g in
     (same, append_cancel_left other rest more (ap (λ (x : List ℕ). x ++ rest) (sym same) ∙ e))
 

@@ -7,4 +7,5 @@ use Rattle.hs_plain.specs.declared.plain.PlainModule.{PlainModule}
 use Rattle.bp_base.proofs.Sorted.{one_order}
 
 pub one_flat_text : (m : PlainModule) (t u : Text) → IsFlatText m t → IsFlatText m u → t ≡ u
-one_flat_text m t u p q = p.written ∙ ap (λ (names : List Text). text_with m names) (one_order (names_of m.bindings) p.exports q.exports p.same q.same p.sorted q.sorted) ∙ sym q.written
+one_flat_text m t u p q = p.written ∙ ap (λ (names : List Text). text_with m names)
+    (one_order (names_of m.bindings) p.exports q.exports p.same q.same p.sorted q.sorted) ∙ sym q.written

@@ -1,5 +1,7 @@
 -- The flat text of a module that a source spells reads back as the module.
-use Rattle.std.proofs.Common.{refl, sym, ap, ◌∙◌, subst, ◌≡◌, ◌≢◌, inl, inr, ℕ, zero, suc, ◌+◌, ◌-◌, ◌*◌, ◌/◌, ◌%◌, ◌^◌, ◌<◌, ◌≤◌, Bool, true, false, not, ◌&&◌, ◌||◌, ◌==◌, Option, Some, None, unwrap_or, List, [], ◌∷◌, ◌++◌, map, codes, IsPermutation, nat_le, append_assoc, arith, if◌then◌else◌}
+use Rattle.std.proofs.Common.{refl, sym, ap, ◌∙◌, subst, ◌≡◌, ◌≢◌, inl, inr, ℕ, zero, suc, ◌+◌, ◌-◌, ◌*◌, ◌/◌, ◌%◌, ◌^◌}
+use Rattle.std.proofs.Common.{◌<◌, ◌≤◌, Bool, true, false, not, ◌&&◌, ◌||◌, ◌==◌, Option, Some, None, unwrap_or, List}
+use Rattle.std.proofs.Common.{[], ◌∷◌, ◌++◌, map, codes, IsPermutation, nat_le, append_assoc, arith, if◌then◌else◌}
 use Rattle.std.specs.List.{list_all, list_any, flat_map}
 use Rattle.std.proofs.lemmas.List.Sorted.{list_any-IsPermutation}
 use Rattle.std.specs.Fmt.{decimal}
@@ -9,15 +11,19 @@ use Rattle.std.proofs.lemmas.Bool.{and_parts, eqb-true}
 use Rattle.backpack_run.proofs.Lexing.{and_both}
 use Rattle.bp_base.specs.Lists.{AreDistinct}
 use Rattle.bp_base.proofs.Texts.{same_texts}
-use Rattle.backpack_run.specs.Characters.{is_lower, is_upper, is_digit, is_word_char, is_blank, is_text, is_module_name, is_variable_name}
+use Rattle.backpack_run.specs.Characters.{is_lower, is_upper, is_digit, is_word_char, is_blank, is_text, is_module_name}
+use Rattle.backpack_run.specs.Characters.{is_variable_name}
 use Rattle.backpack_run.specs.Lexical.{skip_blanks}
 use Rattle.bp_base.specs.Lists.{is_among}
-use Rattle.backpack_run.specs.Source.{value_after, number_of, arrows_then, atom_of, LeadsBinding, LeadsItem, AreItems, Spells}
-use Rattle.backpack_run.specs.ReadBack.{is_flat_char, starts_flat, is_flat_symbol, LexesFlat, export_tokens, flat_tokens, after_front, plain_token, ReadsBack}
+use Rattle.backpack_run.specs.Source.{value_after, number_of, arrows_then, atom_of, LeadsBinding, LeadsItem, AreItems}
+use Rattle.backpack_run.specs.Source.{IsSourceOf}
+use Rattle.backpack_run.specs.ReadBack.{is_flat_char, starts_flat, is_flat_symbol, LexesFlat, export_tokens}
+use Rattle.backpack_run.specs.ReadBack.{flat_tokens, after_front, plain_token, ReadsBack}
 use Rattle.backpack_run.proofs.Building.{item_shape, first_item}
 use Rattle.backpack_run.proofs.OneReading.{one_reading}
 use Rattle.backpack_run.proofs.Shaping.{arrows-more}
-use Rattle.hs_plain.specs.Text.{flat_name, more_names, name_list, head_line, arrows_text, type_line, args_text, atom_text, atoms_text, clause_line, binding_lines, text_with, IsFlatText}
+use Rattle.hs_plain.specs.Text.{flat_name, more_names, name_list, head_line, arrows_text, type_line, args_text}
+use Rattle.hs_plain.specs.Text.{atom_text, atoms_text, clause_line, binding_lines, text_with, IsFlatText}
 use Rattle.hs_plain.specs.declared.plain.Atom.{Atom}
 use Rattle.hs_plain.specs.declared.plain.Atom.TheVariants.{Number, Argument, Declared}
 use Rattle.hs_plain.specs.declared.plain.Binding.{Binding}
@@ -34,7 +40,8 @@ or_right false = refl
 equal_number : (x : ℕ) → (x == x) ≡ true
 equal_number x = grind (arith, nat_tests)
 
-all_append : {X : Type 0} (p : X → Bool) (xs ys : List X) → list_all p xs ≡ true → list_all p ys ≡ true → list_all p (xs ++ ys) ≡ true
+all_append : {X : Type 0} (p : X → Bool) (xs ys : List X) → list_all p xs ≡ true → list_all p ys ≡ true
+    → list_all p (xs ++ ys) ≡ true
 all_append p [] ys h k = k
 all_append p (x ∷ xs) ys h k = let t = and_parts (p x) (list_all p xs) h in and_both t.0 (all_append p xs ys t.1 k)
 
@@ -53,13 +60,15 @@ digit_flat b h = rw h (ap (λ (t : Bool). t || (b == 46)) (or_right (is_lower b 
 
 digits_flat : (ds : List ℕ) → list_all is_digit ds ≡ true → list_all is_flat_char ds ≡ true
 digits_flat [] h = refl
-digits_flat (d ∷ ds) h = let t = and_parts (is_digit d) (list_all is_digit ds) h in and_both (digit_flat d t.0) (digits_flat ds t.1)
+digits_flat (d ∷ ds) h = let t = and_parts (is_digit d) (list_all is_digit ds) h in
+    and_both (digit_flat d t.0) (digits_flat ds t.1)
 
 blank_no_flat : (is_flat_char 32 ≡ false) × (is_flat_char 10 ≡ false)
 unfolding is_flat_char is_word_char is_lower is_upper is_digit
 blank_no_flat = (refl, refl)
 
-symbols_no_flat : (is_flat_char 40 ≡ false) × (is_flat_char 41 ≡ false) × (is_flat_char 44 ≡ false) × (is_flat_char 59 ≡ false)
+symbols_no_flat : (is_flat_char 40 ≡ false) × (is_flat_char 41 ≡ false) × (is_flat_char 44 ≡ false)
+    × (is_flat_char 59 ≡ false)
 unfolding is_flat_char is_word_char is_lower is_upper is_digit
 symbols_no_flat = (refl, refl, refl, refl)
 
@@ -67,7 +76,9 @@ blanks : (is_blank 32 ≡ true) × (is_blank 10 ≡ true)
 unfolding is_blank
 blanks = (refl, refl)
 
-no_blanks : (is_blank 40 ≡ false) × (is_blank 41 ≡ false) × (is_blank 44 ≡ false) × (is_blank 45 ≡ false) × (is_blank 58 ≡ false) × (is_blank 59 ≡ false) × (is_blank 61 ≡ false) × (is_blank 123 ≡ false) × (is_blank 125 ≡ false)
+no_blanks : (is_blank 40 ≡ false) × (is_blank 41 ≡ false) × (is_blank 44 ≡ false) × (is_blank 45 ≡ false)
+    × (is_blank 58 ≡ false) × (is_blank 59 ≡ false) × (is_blank 61 ≡ false) × (is_blank 123 ≡ false)
+    × (is_blank 125 ≡ false)
 unfolding is_blank
 no_blanks = (refl, refl, refl, refl, refl, refl, refl, refl, refl)
 
@@ -101,7 +112,8 @@ digits_word (d ∷ ds) n h =
 
 module_flat : (at : List ℕ) → is_module_name at ≡ true → list_all is_flat_char at ≡ true
 module_flat [] h = refl
-module_flat (b ∷ bs) h = let t = and_parts (is_upper b) (list_all is_digit bs) h in and_both (upper_flat b t.0) (digits_flat bs t.1)
+module_flat (b ∷ bs) h = let t = and_parts (is_upper b) (list_all is_digit bs) h in
+    and_both (upper_flat b t.0) (digits_flat bs t.1)
 
 unit_flat : list_all is_flat_char (codes "U0.") ≡ true
 unfolding is_flat_char is_word_char is_lower is_upper is_digit
@@ -115,7 +127,8 @@ u_flat : is_flat_char 85 ≡ true
 unfolding is_flat_char is_word_char is_lower is_upper is_digit
 u_flat = refl
 
-words_known : (IsFlatWord (codes "module")) × IsFlatWord (codes "where") × IsFlatWord (codes "import") × IsFlatWord (codes "qualified") × IsFlatWord (codes "Prelude") × IsFlatWord (codes "Prelude.Int")
+words_known : (IsFlatWord (codes "module")) × IsFlatWord (codes "where") × IsFlatWord (codes "import")
+    × IsFlatWord (codes "qualified") × IsFlatWord (codes "Prelude") × IsFlatWord (codes "Prelude.Int")
 unfolding is_flat_char is_word_char is_lower is_upper is_digit
 words_known = (refl, refl, refl, refl, refl, refl)
 
@@ -125,11 +138,13 @@ unit_word at h = and_both u_flat (all_append is_flat_char (codes "U0.") at unit_
 name_flat : (occ : List ℕ) → is_variable_name occ ≡ true → list_all is_flat_char occ ≡ true
 name_flat occ h = (and_parts (starts_flat occ) (list_all is_flat_char occ) (name_word occ h)).1
 
-flat_name_word : (at occ : List ℕ) → is_module_name at ≡ true → is_variable_name occ ≡ true → IsFlatWord (flat_name at occ)
+flat_name_word : (at occ : List ℕ) → is_module_name at ≡ true → is_variable_name occ ≡ true
+    → IsFlatWord (flat_name at occ)
 flat_name_word at occ h k =
     and_both u_flat
     (all_append is_flat_char (codes "U0." ++ at ++ codes ".") occ
-    (all_append is_flat_char (codes "U0." ++ at) (codes ".") (all_append is_flat_char (codes "U0.") at unit_flat (module_flat at h)) dot_flat)
+    (all_append is_flat_char (codes "U0." ++ at) (codes ".")
+    (all_append is_flat_char (codes "U0.") at unit_flat (module_flat at h)) dot_flat)
     (name_flat occ k))
 
 -- a text from its first character on that is no blank is these tokens
@@ -142,13 +157,15 @@ space rest ts h = rw blanks.0 h
 line : (rest : List ℕ) (ts : Tokens) → Lexed rest ts → Lexed (10 ∷ rest) ts
 line rest ts h = rw blanks.1 h
 
-word : (w rest : List ℕ) (ts : Tokens) → IsFlatWord w → starts_flat rest ≡ false → Lexed rest ts → Lexed (w ++ rest) (w ∷ ts)
+word : (w rest : List ℕ) (ts : Tokens) → IsFlatWord w → starts_flat rest ≡ false → Lexed rest ts
+    → Lexed (w ++ rest) (w ∷ ts)
 word [] rest ts h s k = absurd (cc h)
 word (b ∷ bs) rest ts h s k =
     let t = and_parts (is_flat_char b) (list_all is_flat_char (b ∷ bs)) h in
     rw (flat_no_blank b t.0) (rest, refl, inl (h, s), k)
 
-symbol : (b : ℕ) (bs rest : List ℕ) (ts : Tokens) → is_blank b ≡ false → is_flat_symbol (b ∷ bs) ≡ true → Lexed rest ts → Lexed ((b ∷ bs) ++ rest) ((b ∷ bs) ∷ ts)
+symbol : (b : ℕ) (bs rest : List ℕ) (ts : Tokens) → is_blank b ≡ false → is_flat_symbol (b ∷ bs) ≡ true → Lexed rest ts
+    → Lexed ((b ∷ bs) ++ rest) ((b ∷ bs) ∷ ts)
 symbol b bs rest ts e h k = rw e (rest, refl, inr h, k)
 
 -- pieces of a text: with anything behind them, or with what goes on no word
@@ -169,7 +186,8 @@ open_open : (x y : List ℕ) (xs ys : Tokens) → Open x xs → Open y ys → Be
 open_open x y xs ys p q b rest ts s h =
     rw (append_assoc x y rest, append_assoc xs ys ts) (p (y ++ rest) (ys ++ ts) (b rest s) (q rest ts s h))
 
-open_closed : (x y : List ℕ) (xs ys : Tokens) → Open x xs → Closed y ys → ((rest : List ℕ) → starts_flat (y ++ rest) ≡ false) → Closed (x ++ y) (xs ++ ys)
+open_closed : (x y : List ℕ) (xs ys : Tokens) → Open x xs → Closed y ys
+    → ((rest : List ℕ) → starts_flat (y ++ rest) ≡ false) → Closed (x ++ y) (xs ++ ys)
 open_closed x y xs ys p q b rest ts h =
     rw (append_assoc x y rest, append_assoc xs ys ts) (p (y ++ rest) (ys ++ ts) (b rest) (q rest ts h))
 
@@ -189,22 +207,26 @@ typed_piece : Open (codes " :: Prelude.Int") (codes "::" ∷ codes "Prelude.Int"
 typed_piece rest ts s h =
     space (codes ":: Prelude.Int" ++ rest) (codes "::" ∷ codes "Prelude.Int" ∷ ts)
     (symbol 58 (58 ∷ []) (codes " Prelude.Int" ++ rest) (codes "Prelude.Int" ∷ ts) no_blanks.4 refl
-    (space (codes "Prelude.Int" ++ rest) (codes "Prelude.Int" ∷ ts) (word (codes "Prelude.Int") rest ts words_known.5 s h)))
+    (space (codes "Prelude.Int" ++ rest) (codes "Prelude.Int" ∷ ts)
+    (word (codes "Prelude.Int") rest ts words_known.5 s h)))
 
 arrow_piece : Open (codes " -> Prelude.Int") (codes "->" ∷ codes "Prelude.Int" ∷ [])
 arrow_piece rest ts s h =
     space (codes "-> Prelude.Int" ++ rest) (codes "->" ∷ codes "Prelude.Int" ∷ ts)
     (symbol 45 (62 ∷ []) (codes " Prelude.Int" ++ rest) (codes "Prelude.Int" ∷ ts) no_blanks.3 refl
-    (space (codes "Prelude.Int" ++ rest) (codes "Prelude.Int" ∷ ts) (word (codes "Prelude.Int") rest ts words_known.5 s h)))
+    (space (codes "Prelude.Int" ++ rest) (codes "Prelude.Int" ∷ ts)
+    (word (codes "Prelude.Int") rest ts words_known.5 s h)))
 
 arrows_begin : (n : ℕ) → Begins (arrows_text n)
 arrows_begin zero = λ rest s. s
-arrows_begin (suc n) = begins_both (arrows_text n) (codes " -> Prelude.Int") (arrows_begin n) (λ rest s. blank_no_flat.0)
+arrows_begin (suc n) = begins_both (arrows_text n) (codes " -> Prelude.Int") (arrows_begin n)
+    (λ rest s. blank_no_flat.0)
 
 arrows_piece : (n : ℕ) → Open (arrows_text n) (flat_arrows n)
 arrows_piece zero = λ rest ts s h. h
 arrows_piece (suc n) =
-    open_open (arrows_text n) (codes " -> Prelude.Int") (flat_arrows n) (codes "->" ∷ codes "Prelude.Int" ∷ []) (arrows_piece n) arrow_piece (λ rest s. blank_no_flat.0)
+    open_open (arrows_text n) (codes " -> Prelude.Int") (flat_arrows n) (codes "->" ∷ codes "Prelude.Int" ∷ [])
+    (arrows_piece n) arrow_piece (λ rest s. blank_no_flat.0)
 
 end_piece : Closed (codes ";\n") (codes ";" ∷ [])
 end_piece rest ts h = symbol 59 [] (10 ∷ rest) ts no_blanks.5 refl (line rest ts h)
@@ -220,9 +242,12 @@ type_tokens b = b.occ ∷ codes "::" ∷ codes "Prelude.Int" ∷ (flat_arrows b.
 
 type_piece : (b : Binding) → is_variable_name b.occ ≡ true → Closed (type_line b) (type_tokens b)
 type_piece b h =
-    open_closed (b.occ ++ codes " :: Prelude.Int" ++ arrows_text b.arrows) (codes ";\n") (b.occ ∷ codes "::" ∷ codes "Prelude.Int" ∷ flat_arrows b.arrows) (codes ";" ∷ [])
-    (open_open (b.occ ++ codes " :: Prelude.Int") (arrows_text b.arrows) (b.occ ∷ codes "::" ∷ codes "Prelude.Int" ∷ []) (flat_arrows b.arrows)
-    (open_open b.occ (codes " :: Prelude.Int") (b.occ ∷ []) (codes "::" ∷ codes "Prelude.Int" ∷ []) (word_piece b.occ (name_word b.occ h)) typed_piece (λ rest s. blank_no_flat.0))
+    open_closed (b.occ ++ codes " :: Prelude.Int" ++ arrows_text b.arrows) (codes ";\n")
+    (b.occ ∷ codes "::" ∷ codes "Prelude.Int" ∷ flat_arrows b.arrows) (codes ";" ∷ [])
+    (open_open (b.occ ++ codes " :: Prelude.Int") (arrows_text b.arrows) (b.occ ∷ codes "::" ∷ codes "Prelude.Int" ∷ [])
+    (flat_arrows b.arrows)
+    (open_open b.occ (codes " :: Prelude.Int") (b.occ ∷ []) (codes "::" ∷ codes "Prelude.Int" ∷ [])
+    (word_piece b.occ (name_word b.occ h)) typed_piece (λ rest s. blank_no_flat.0))
     (arrows_piece b.arrows) (arrows_begin b.arrows))
     end_piece (λ rest. symbols_no_flat.3)
 
@@ -235,10 +260,12 @@ abbrev AllWords : Tokens → Type 0
 AllWords [] = Unit {0}
 AllWords (w ∷ ws) = IsFlatWord w × AllWords ws
 
-spaced_piece : {X : Type 0} (f : X → List ℕ) (xs : List X) → AllWords (map f xs) → Open (flat_map (λ x. codes " " ++ f x) xs) (map f xs)
+spaced_piece : {X : Type 0} (f : X → List ℕ) (xs : List X) → AllWords (map f xs)
+    → Open (flat_map (λ x. codes " " ++ f x) xs) (map f xs)
 spaced_piece f [] h = λ rest ts s k. k
 spaced_piece f (x ∷ xs) h =
-    open_open (codes " " ++ f x) (flat_map (λ y. codes " " ++ f y) xs) (f x ∷ []) (map f xs) (space_word (f x) h.0) (spaced_piece f xs h.1) (spaced_begin f xs)
+    open_open (codes " " ++ f x) (flat_map (λ y. codes " " ++ f y) xs) (f x ∷ []) (map f xs) (space_word (f x) h.0)
+    (spaced_piece f xs h.1) (spaced_begin f xs)
 
 equals_piece : Closed (codes " =") (codes "=" ∷ [])
 equals_piece rest ts h = space (codes "=" ++ rest) (codes "=" ∷ ts) (symbol 61 [] rest ts no_blanks.6 refl h)
@@ -253,7 +280,8 @@ same_map (x ∷ xs) = ap (λ t. x ∷ t) (same_map xs)
 
 names_words : (names : Tokens) → list_all is_variable_name names ≡ true → AllWords names
 names_words [] h = tt
-names_words (w ∷ ws) h = let t = and_parts (is_variable_name w) (list_all is_variable_name ws) h in (name_word w t.0, names_words ws t.1)
+names_words (w ∷ ws) h = let t = and_parts (is_variable_name w) (list_all is_variable_name ws) h in
+    (name_word w t.0, names_words ws t.1)
 
 args_piece : (args : Tokens) → list_all is_variable_name args ≡ true → Open (args_text args) args
 args_piece args h =
@@ -263,14 +291,17 @@ args_piece args h =
 abbrev clause_tokens : List ℕ → Binding → Tokens
 clause_tokens at b = b.occ ∷ (((b.args ++ codes "=" ∷ []) ++ map (atom_text at) b.atoms) ++ codes ";" ∷ [])
 
-clause_piece : (at : List ℕ) (b : Binding) → is_variable_name b.occ ≡ true → list_all is_variable_name b.args ≡ true → AllWords (map (atom_text at) b.atoms)
+clause_piece : (at : List ℕ) (b : Binding) → is_variable_name b.occ ≡ true → list_all is_variable_name b.args ≡ true
+    → AllWords (map (atom_text at) b.atoms)
     → Closed (clause_line at b) (clause_tokens at b)
 clause_piece at b h k w =
     open_closed (b.occ ++ args_text b.args ++ codes " =" ++ atoms_text at b.atoms) (codes ";\n")
     (b.occ ∷ ((b.args ++ codes "=" ∷ []) ++ map (atom_text at) b.atoms)) (codes ";" ∷ [])
-    (closed_open (b.occ ++ args_text b.args ++ codes " =") (atoms_text at b.atoms) (b.occ ∷ (b.args ++ codes "=" ∷ [])) (map (atom_text at) b.atoms)
+    (closed_open (b.occ ++ args_text b.args ++ codes " =") (atoms_text at b.atoms) (b.occ ∷ (b.args ++ codes "=" ∷ []))
+    (map (atom_text at) b.atoms)
     (open_closed (b.occ ++ args_text b.args) (codes " =") (b.occ ∷ b.args) (codes "=" ∷ [])
-    (open_open b.occ (args_text b.args) (b.occ ∷ []) b.args (word_piece b.occ (name_word b.occ h)) (args_piece b.args k) (spaced_begin (λ (x : List ℕ). x) b.args))
+    (open_open b.occ (args_text b.args) (b.occ ∷ []) b.args (word_piece b.occ (name_word b.occ h)) (args_piece b.args k)
+    (spaced_begin (λ (x : List ℕ). x) b.args))
     equals_piece (λ rest. blank_no_flat.0))
     (spaced_piece (atom_text at) b.atoms w))
     end_piece (λ rest. symbols_no_flat.3)
@@ -315,7 +346,8 @@ value_after-append n (e ∷ ds) d = value_after-append (n * 10 + (e - 48)) ds d
 
 small_digit : (n : ℕ) → n < 10 → is_digit (48 + n) ≡ true
 unfolding is_digit
-small_digit n h = and_both {a = nat_le 48 (48 + n)} {b = nat_le (48 + n) 57} (grind (arith, nat_tests)) (grind (arith, nat_tests))
+small_digit n h = and_both {a = nat_le 48 (48 + n)} {b =
+    nat_le (48 + n) 57} (grind (arith, nat_tests)) (grind (arith, nat_tests))
 
 record IsDecimal (n : ℕ) (ds : List ℕ) : Type 0 where
   some : ds ≢ []
@@ -339,16 +371,20 @@ decimal_more n ds h k = record {
 decimal_is : (n : ℕ) → n < 2 ^ 64 → IsDecimal n (decimal n)
 decimal_is n h = decimal_by_steps IsDecimal decimal_one decimal_more n h
 
-number_of-digits : (ds : List ℕ) → ds ≢ [] → list_all is_digit ds ≡ true → nat_le (value_after 0 ds) 9223372036854775807 ≡ true → number_of ds ≡ Some (value_after 0 ds)
+number_of-digits : (ds : List ℕ) → ds ≢ [] → list_all is_digit ds ≡ true
+    → nat_le (value_after 0 ds) 9223372036854775807 ≡ true → number_of ds ≡ Some (value_after 0 ds)
 number_of-digits [] n h k = absurd (n refl)
 number_of-digits (d ∷ ds) n h k = rw (h, k) refl
 
 number_within : (word : List ℕ) (v : ℕ) → number_of word ≡ Some v → nat_le v 9223372036854775807 ≡ true
 number_within [] v h = absurd (cc h)
-number_within (d ∷ ds) v h = by_cases (list_all is_digit (d ∷ ds)) refl (nat_le (value_after 0 (d ∷ ds)) 9223372036854775807) refl
+number_within (d ∷ ds) v h = by_cases (list_all is_digit (d ∷ ds)) refl
+    (nat_le (value_after 0 (d ∷ ds)) 9223372036854775807) refl
   where
-    by_cases : (a : Bool) → list_all is_digit (d ∷ ds) ≡ a → (b : Bool) → nat_le (value_after 0 (d ∷ ds)) 9223372036854775807 ≡ b → nat_le v 9223372036854775807 ≡ true
-    by_cases true e true f = let g : value_after 0 (d ∷ ds) ≡ v = cc (rw (e, f) at h) in subst (λ (x : ℕ). nat_le x 9223372036854775807 ≡ true) g f
+    by_cases : (a : Bool) → list_all is_digit (d ∷ ds) ≡ a → (b : Bool)
+        → nat_le (value_after 0 (d ∷ ds)) 9223372036854775807 ≡ b → nat_le v 9223372036854775807 ≡ true
+    by_cases true e true f = let g : value_after 0 (d ∷ ds) ≡ v = cc (rw (e, f) at h) in
+        subst (λ (x : ℕ). nat_le x 9223372036854775807 ≡ true) g f
     by_cases true e false f = absurd (cc (rw (e, f) at h))
     by_cases false e b f = absurd (cc (rw e at h))
 
@@ -371,13 +407,16 @@ capitals = (refl, refl, refl, refl)
 other_token : (at : List ℕ) (b : ℕ) (bs : List ℕ) → b ≢ 80 → b ≢ 85 → plain_token at (b ∷ bs) ≡ b ∷ bs
 other_token at b bs m n = first (is_text (b ∷ bs) (codes "Prelude.Int")) refl
   where
-    second : (t : Bool) → (85 == b) ≡ t → unwrap_or (if t then after_front (codes "0." ++ at ++ codes ".") bs else None) (b ∷ bs) ≡ b ∷ bs
+    second : (t : Bool) → (85 == b) ≡ t → unwrap_or (if t then after_front (codes "0." ++ at ++ codes ".") bs else None)
+        (b ∷ bs) ≡ b ∷ bs
     second true e = absurd (n (sym (eqb-true 85 b e)))
     second false e = refl
 
     first : (t : Bool) → is_text (b ∷ bs) (codes "Prelude.Int") ≡ t
-        → (if t then codes "Int" else unwrap_or (after_front (codes "U0." ++ at ++ codes ".") (b ∷ bs)) (b ∷ bs)) ≡ b ∷ bs
-    first true e = let s : b ∷ bs ≡ codes "Prelude.Int" = same_texts (b ∷ bs) (codes "Prelude.Int") e in absurd (m (cc s))
+        → (if t then codes "Int" else unwrap_or (after_front (codes "U0." ++ at ++ codes ".") (b ∷ bs)) (b ∷ bs)) ≡ b
+        ∷ bs
+    first true e = let s : b ∷ bs ≡ codes "Prelude.Int" = same_texts (b ∷ bs) (codes "Prelude.Int") e in
+        absurd (m (cc s))
     first false e = second (85 == b) refl
 
 name_token : (at word : List ℕ) → is_variable_name word ≡ true → plain_token at word ≡ word
@@ -397,7 +436,8 @@ front_there [] text = refl
 front_there (c ∷ front) text = rw (equal_number c) (front_there front text)
 
 own_token : (at occ : List ℕ) → plain_token at (flat_name at occ) ≡ occ
-own_token at occ = ap (λ (o : Option (List ℕ)). unwrap_or o (flat_name at occ)) (front_there (codes "U0." ++ at ++ codes ".") occ)
+own_token at occ = ap (λ (o : Option (List ℕ)). unwrap_or o (flat_name at occ))
+    (front_there (codes "U0." ++ at ++ codes ".") occ)
 
 -- the token of an atom as a source writes it
 abbrev plain_word : Atom → List ℕ
@@ -414,33 +454,42 @@ number_back : (at : List ℕ) (args : Tokens) (v : ℕ) → nat_le v 92233720368
 number_back at args v h =
     let d = decimal_is v (within_word v h) in
     let n : number_of (decimal v) ≡ Some v =
-    number_of-digits (decimal v) d.some d.digits (ap (λ (x : ℕ). nat_le x 9223372036854775807) d.value ∙ h) ∙ ap Some d.value in
+    number_of-digits (decimal v) d.some d.digits (ap (λ (x : ℕ). nat_le x 9223372036854775807) d.value ∙ h)
+    ∙ ap Some d.value in
     record {
       read = rw (digits_no_name (decimal v) d.digits, n) refl;
       flat = digits_word (decimal v) d.some d.digits;
       token = digits_token at (decimal v) d.some d.digits;
     }
 
-atom_back : (at : List ℕ) (args : Tokens) → is_module_name at ≡ true → (w : List ℕ) (a : Atom) → atom_of args w ≡ Some a → AtomBack at args a
+atom_back : (at : List ℕ) (args : Tokens) → is_module_name at ≡ true → (w : List ℕ) (a : Atom) → atom_of args w ≡ Some a
+    → AtomBack at args a
 atom_back at args m w a h = by_cases (is_variable_name w) refl (is_among w args) refl (number_of w) refl
   where
-    by_cases : (t : Bool) → is_variable_name w ≡ t → (u : Bool) → is_among w args ≡ u → (o : Option ℕ) → number_of w ≡ o → AtomBack at args a
+    by_cases : (t : Bool) → is_variable_name w ≡ t → (u : Bool) → is_among w args ≡ u → (o : Option ℕ) → number_of w ≡ o
+        → AtomBack at args a
     by_cases true e true f o g =
         let q : Argument w ≡ a = cc (rw (e, f) at h) in
         subst (AtomBack at args) q (record { read = rw (e, f) refl; flat = name_word w e; token = name_token at w e })
     by_cases true e false f o g =
         let q : Declared w ≡ a = cc (rw (e, f) at h) in
-        subst (AtomBack at args) q (record { read = rw (e, f) refl; flat = flat_name_word at w m e; token = own_token at w })
+        subst (AtomBack at args) q (record {
+          read = rw (e, f) refl;
+          flat = flat_name_word at w m e;
+          token = own_token at w;
+        })
     by_cases false e u f None g = absurd (cc (rw (e, g) at h))
     by_cases false e u f (Some v) g =
-        let q : Number v ≡ a = cc (rw (e, g) at h) in subst (AtomBack at args) q (number_back at args v (number_within w v g))
+        let q : Number v ≡ a = cc (rw (e, g) at h) in
+        subst (AtomBack at args) q (number_back at args v (number_within w v g))
 
 record AtomsBack (at : List ℕ) (args : Tokens) (atoms : List Atom) : Type 0 where
   read : map (atom_of args) (map plain_word atoms) ≡ map Some atoms
   flat : AllWords (map (atom_text at) atoms)
   token : map (plain_token at) (map (atom_text at) atoms) ≡ map plain_word atoms
 
-atoms_back : (at : List ℕ) (args : Tokens) → is_module_name at ≡ true → (ws : Tokens) (atoms : List Atom) → map (atom_of args) ws ≡ map Some atoms → AtomsBack at args atoms
+atoms_back : (at : List ℕ) (args : Tokens) → is_module_name at ≡ true → (ws : Tokens) (atoms : List Atom)
+    → map (atom_of args) ws ≡ map Some atoms → AtomsBack at args atoms
 atoms_back at args m ws [] h = record { read = refl; flat = tt; token = refl }
 atoms_back at args m [] (a ∷ atoms) h = absurd (cc h)
 atoms_back at args m (w ∷ ws) (a ∷ atoms) h =
@@ -452,7 +501,8 @@ map_both : {X Y : Type 0} (f : X → Y) (xs ys : List X) → map f (xs ++ ys) �
 map_both f [] ys = refl
 map_both f (x ∷ xs) ys = ap (λ t. f x ∷ t) (map_both f xs ys)
 
-names_tokens : (at : List ℕ) (names : Tokens) → list_all is_variable_name names ≡ true → map (plain_token at) names ≡ names
+names_tokens : (at : List ℕ) (names : Tokens) → list_all is_variable_name names ≡ true
+    → map (plain_token at) names ≡ names
 names_tokens at [] h = refl
 names_tokens at (w ∷ ws) h =
     let t = and_parts (is_variable_name w) (list_all is_variable_name ws) h in
@@ -466,25 +516,34 @@ arrows_plain at (suc n) rest =
     ∙ (arrows_plain at n (codes "->" ∷ codes "Int" ∷ rest) ∙ arrows-more n rest))
 
 type_plain : (at : List ℕ) (b : Binding) (rest : Tokens) → is_variable_name b.occ ≡ true
-    → map (plain_token at) (type_tokens b) ++ rest ≡ b.occ ∷ codes "::" ∷ codes "Int" ∷ arrows_then b.arrows (codes ";" ∷ rest)
+    → map (plain_token at) (type_tokens b) ++ rest ≡ b.occ ∷ codes "::" ∷ codes "Int" ∷ arrows_then b.arrows
+    (codes ";" ∷ rest)
 type_plain at b rest h =
-    let e : map (plain_token at) (flat_arrows b.arrows ++ codes ";" ∷ []) ++ rest ≡ arrows_then b.arrows (codes ";" ∷ rest) =
+    let e : map (plain_token at) (flat_arrows b.arrows ++ codes ";" ∷ [])
+    ++ rest ≡ arrows_then b.arrows (codes ";" ∷ rest) =
     ap (λ (t : Tokens). t ++ rest) (map_both (plain_token at) (flat_arrows b.arrows) (codes ";" ∷ []))
-    ∙ (append_assoc (map (plain_token at) (flat_arrows b.arrows)) (codes ";" ∷ []) rest ∙ arrows_plain at b.arrows (codes ";" ∷ rest)) in
+    ∙ (append_assoc (map (plain_token at) (flat_arrows b.arrows)) (codes ";" ∷ []) rest
+    ∙ arrows_plain at b.arrows (codes ";" ∷ rest)) in
     let o = name_token at b.occ h in
     λ i. o i ∷ codes "::" ∷ codes "Int" ∷ e i
 
-clause_plain : (at : List ℕ) (b : Binding) (rest : Tokens) → is_variable_name b.occ ≡ true → list_all is_variable_name b.args ≡ true
+clause_plain : (at : List ℕ) (b : Binding) (rest : Tokens) → is_variable_name b.occ ≡ true
+    → list_all is_variable_name b.args ≡ true
     → map (plain_token at) (map (atom_text at) b.atoms) ≡ map plain_word b.atoms
-    → map (plain_token at) (clause_tokens at b) ++ rest ≡ b.occ ∷ (b.args ++ codes "=" ∷ (map plain_word b.atoms ++ codes ";" ∷ rest))
+    → map (plain_token at) (clause_tokens at b) ++ rest ≡ b.occ ∷
+    (b.args ++ codes "=" ∷ (map plain_word b.atoms ++ codes ";" ∷ rest))
 clause_plain at b rest h k w =
     let words : Tokens = map (atom_text at) b.atoms in
     let front : map (plain_token at) (b.args ++ codes "=" ∷ []) ≡ b.args ++ codes "=" ∷ [] =
-    map_both (plain_token at) b.args (codes "=" ∷ []) ∙ ap (λ (t : Tokens). t ++ codes "=" ∷ []) (names_tokens at b.args k) in
-    let middle : map (plain_token at) ((b.args ++ codes "=" ∷ []) ++ words) ≡ (b.args ++ codes "=" ∷ []) ++ map plain_word b.atoms =
+    map_both (plain_token at) b.args (codes "=" ∷ [])
+    ∙ ap (λ (t : Tokens). t ++ codes "=" ∷ []) (names_tokens at b.args k) in
+    let middle : map (plain_token at) ((b.args ++ codes "=" ∷ []) ++ words) ≡ (b.args ++ codes "=" ∷ [])
+    ++ map plain_word b.atoms =
     map_both (plain_token at) (b.args ++ codes "=" ∷ []) words ∙ (λ i. front i ++ w i) in
-    let all : map (plain_token at) (((b.args ++ codes "=" ∷ []) ++ words) ++ codes ";" ∷ []) ≡ ((b.args ++ codes "=" ∷ []) ++ map plain_word b.atoms) ++ codes ";" ∷ [] =
-    map_both (plain_token at) ((b.args ++ codes "=" ∷ []) ++ words) (codes ";" ∷ []) ∙ ap (λ (t : Tokens). t ++ codes ";" ∷ []) middle in
+    let all : map (plain_token at) (((b.args ++ codes "=" ∷ []) ++ words) ++ codes ";" ∷ []) ≡
+    ((b.args ++ codes "=" ∷ []) ++ map plain_word b.atoms) ++ codes ";" ∷ [] =
+    map_both (plain_token at) ((b.args ++ codes "=" ∷ []) ++ words) (codes ";" ∷ [])
+    ∙ ap (λ (t : Tokens). t ++ codes ";" ∷ []) middle in
     let o = name_token at b.occ h in
     (λ i. o i ∷ (all i ++ rest))
     ∙ ap (λ (t : Tokens). b.occ ∷ t)
@@ -500,7 +559,8 @@ abbrev plain_items : List ℕ → List Binding → Tokens
 plain_items at bs = map (plain_token at) (items_of at bs)
 
 tokens_first : (at : List ℕ) (b : Binding) (bs : List Binding)
-    → plain_items at (b ∷ bs) ≡ map (plain_token at) (type_tokens b) ++ (map (plain_token at) (clause_tokens at b) ++ plain_items at bs)
+    → plain_items at (b ∷ bs) ≡ map (plain_token at) (type_tokens b)
+    ++ (map (plain_token at) (clause_tokens at b) ++ plain_items at bs)
 tokens_first at b bs =
     let t = type_tokens b in
     let c = clause_tokens at b in
@@ -508,22 +568,27 @@ tokens_first at b bs =
     let e : ((t ++ c) ++ f) ++ codes "}" ∷ [] ≡ t ++ (c ++ (f ++ codes "}" ∷ [])) =
     append_assoc (t ++ c) f (codes "}" ∷ []) ∙ append_assoc t c (f ++ codes "}" ∷ []) in
     ap (map (plain_token at)) e
-    ∙ (map_both (plain_token at) t (c ++ (f ++ codes "}" ∷ [])) ∙ ap (λ (x : Tokens). map (plain_token at) t ++ x) (map_both (plain_token at) c (f ++ codes "}" ∷ [])))
+    ∙ (map_both (plain_token at) t (c ++ (f ++ codes "}" ∷ []))
+    ∙ ap (λ (x : Tokens). map (plain_token at) t ++ x) (map_both (plain_token at) c (f ++ codes "}" ∷ [])))
 
-no_words : (args ws : Tokens) (atoms : List Atom) → map (atom_of args) ws ≡ map Some atoms → ws ≢ [] → map plain_word atoms ≢ []
+no_words : (args ws : Tokens) (atoms : List Atom) → map (atom_of args) ws ≡ map Some atoms → ws ≢ []
+    → map plain_word atoms ≢ []
 no_words args [] atoms h n e = n refl
 no_words args (w ∷ ws) [] h n e = cc h
 no_words args (w ∷ ws) (a ∷ atoms) h n e = cc e
 
 -- the first value stands at the front of the tokens
-item_back : (at : List ℕ) (b : Binding) (bs : List Binding) → is_module_name at ≡ true → IsLawful b → LeadsItem (plain_items at (b ∷ bs)) b (plain_items at bs)
+item_back : (at : List ℕ) (b : Binding) (bs : List Binding) → is_module_name at ≡ true → IsLawful b
+    → LeadsItem (plain_items at (b ∷ bs)) b (plain_items at bs)
 item_back at b bs m law =
     let rest : Tokens = plain_items at bs in
     let back = atoms_back at b.args m law.words b.atoms law.read in
     let between : Tokens = b.occ ∷ (b.args ++ codes "=" ∷ (map plain_word b.atoms ++ codes ";" ∷ rest)) in
-    let c : map (plain_token at) (clause_tokens at b) ++ rest ≡ between = clause_plain at b rest law.named law.args_named back.token in
+    let c : map (plain_token at) (clause_tokens at b) ++ rest ≡ between =
+    clause_plain at b rest law.named law.args_named back.token in
     let e : plain_items at (b ∷ bs) ≡ b.occ ∷ codes "::" ∷ codes "Int" ∷ arrows_then b.arrows (codes ";" ∷ between) =
-    tokens_first at b bs ∙ (ap (λ (x : Tokens). map (plain_token at) (type_tokens b) ++ x) c ∙ type_plain at b between law.named) in
+    tokens_first at b bs ∙ (ap (λ (x : Tokens). map (plain_token at) (type_tokens b) ++ x) c
+    ∙ type_plain at b between law.named) in
     inl (record {
       between = between;
       typed = record { tokens_are = e; named = law.named; few = law.few };
@@ -537,32 +602,39 @@ item_back at b bs m law =
       };
     })
 
-items_back : (at : List ℕ) (bs : List Binding) → is_module_name at ≡ true → AllLawful bs → AreItems bs (plain_items at bs)
+items_back : (at : List ℕ) (bs : List Binding) → is_module_name at ≡ true → AllLawful bs
+    → AreItems bs (plain_items at bs)
 items_back at [] m h = refl
 items_back at (b ∷ bs) m h = (plain_items at bs, item_back at b bs m h.0, items_back at bs m h.1)
 
-bindings_piece : (at : List ℕ) (bs : List Binding) → is_module_name at ≡ true → AllLawful bs → Closed (flat_map (binding_lines at) bs) (flat_map (binding_tokens at) bs)
+bindings_piece : (at : List ℕ) (bs : List Binding) → is_module_name at ≡ true → AllLawful bs
+    → Closed (flat_map (binding_lines at) bs) (flat_map (binding_tokens at) bs)
 bindings_piece at [] m h = λ rest ts k. k
 bindings_piece at (b ∷ bs) m h =
     let law = h.0 in
-    closed_closed (binding_lines at b) (flat_map (binding_lines at) bs) (binding_tokens at b) (flat_map (binding_tokens at) bs)
+    closed_closed (binding_lines at b) (flat_map (binding_lines at) bs) (binding_tokens at b)
+    (flat_map (binding_tokens at) bs)
     (closed_closed (type_line b) (clause_line at b) (type_tokens b) (clause_tokens at b) (type_piece b law.named)
     (clause_piece at b law.named law.args_named (atoms_back at b.args m law.words b.atoms law.read).flat))
     (bindings_piece at bs m h.1)
 
 -- the pieces of the first two lines
-module_piece : (at : List ℕ) → is_module_name at ≡ true → Open (codes "module U0." ++ at) (codes "module" ∷ (codes "U0." ++ at) ∷ [])
+module_piece : (at : List ℕ) → is_module_name at ≡ true
+    → Open (codes "module U0." ++ at) (codes "module" ∷ (codes "U0." ++ at) ∷ [])
 module_piece at m rest ts s h =
     word (codes "module") (codes " U0." ++ (at ++ rest)) ((codes "U0." ++ at) ∷ ts) words_known.0 blank_no_flat.0
-    (space (codes "U0." ++ (at ++ rest)) ((codes "U0." ++ at) ∷ ts) (word (codes "U0." ++ at) rest ts (unit_word at m) s h))
+    (space (codes "U0." ++ (at ++ rest)) ((codes "U0." ++ at) ∷ ts)
+    (word (codes "U0." ++ at) rest ts (unit_word at m) s h))
 
 bracket_piece : Closed (codes " (") (codes "(" ∷ [])
 bracket_piece rest ts h = space (codes "(" ++ rest) (codes "(" ∷ ts) (symbol 40 [] rest ts no_blanks.0 refl h)
 
-export_piece : (at occ : List ℕ) → is_module_name at ≡ true → is_variable_name occ ≡ true → Open (codes ", " ++ flat_name at occ) (codes "," ∷ flat_name at occ ∷ [])
+export_piece : (at occ : List ℕ) → is_module_name at ≡ true → is_variable_name occ ≡ true
+    → Open (codes ", " ++ flat_name at occ) (codes "," ∷ flat_name at occ ∷ [])
 export_piece at occ m h rest ts s k =
     symbol 44 [] (codes " " ++ (flat_name at occ ++ rest)) (flat_name at occ ∷ ts) no_blanks.2 refl
-    (space (flat_name at occ ++ rest) (flat_name at occ ∷ ts) (word (flat_name at occ) rest ts (flat_name_word at occ m h) s k))
+    (space (flat_name at occ ++ rest) (flat_name at occ ∷ ts)
+    (word (flat_name at occ) rest ts (flat_name_word at occ m h) s k))
 
 abbrev more_tokens : List ℕ → Tokens → Tokens
 more_tokens at names = flat_map (λ name. codes "," ∷ flat_name at name ∷ []) names
@@ -571,18 +643,22 @@ more_begin : (at : List ℕ) (names : Tokens) → Begins (more_names at names)
 more_begin at [] rest s = s
 more_begin at (n ∷ names) rest s = symbols_no_flat.2
 
-more_piece : (at : List ℕ) (names : Tokens) → is_module_name at ≡ true → list_all is_variable_name names ≡ true → Open (more_names at names) (more_tokens at names)
+more_piece : (at : List ℕ) (names : Tokens) → is_module_name at ≡ true → list_all is_variable_name names ≡ true
+    → Open (more_names at names) (more_tokens at names)
 more_piece at [] m h = λ rest ts s k. k
 more_piece at (n ∷ names) m h =
     let t = and_parts (is_variable_name n) (list_all is_variable_name names) h in
-    open_open (codes ", " ++ flat_name at n) (more_names at names) (codes "," ∷ flat_name at n ∷ []) (more_tokens at names) (export_piece at n m t.0)
+    open_open (codes ", " ++ flat_name at n) (more_names at names) (codes "," ∷ flat_name at n ∷ [])
+    (more_tokens at names) (export_piece at n m t.0)
     (more_piece at names m t.1) (more_begin at names)
 
-exports_piece : (at : List ℕ) (names : Tokens) → is_module_name at ≡ true → list_all is_variable_name names ≡ true → Open (name_list at names) (export_tokens at names)
+exports_piece : (at : List ℕ) (names : Tokens) → is_module_name at ≡ true → list_all is_variable_name names ≡ true
+    → Open (name_list at names) (export_tokens at names)
 exports_piece at [] m h = λ rest ts s k. k
 exports_piece at (n ∷ names) m h =
     let t = and_parts (is_variable_name n) (list_all is_variable_name names) h in
-    open_open (flat_name at n) (more_names at names) (flat_name at n ∷ []) (more_tokens at names) (word_piece (flat_name at n) (flat_name_word at n m t.0))
+    open_open (flat_name at n) (more_names at names) (flat_name at n ∷ []) (more_tokens at names)
+    (word_piece (flat_name at n) (flat_name_word at n m t.0))
     (more_piece at names m t.1) (more_begin at names)
 
 where_piece : Closed (codes ") where {\n") (codes ")" ∷ codes "where" ∷ codes "{" ∷ [])
@@ -590,23 +666,32 @@ where_piece rest ts h =
     symbol 41 [] (codes " where {\n" ++ rest) (codes "where" ∷ codes "{" ∷ ts) no_blanks.1 refl
     (space (codes "where {\n" ++ rest) (codes "where" ∷ codes "{" ∷ ts)
     (word (codes "where") (codes " {\n" ++ rest) (codes "{" ∷ ts) words_known.1 blank_no_flat.0
-    (space (codes "{\n" ++ rest) (codes "{" ∷ ts) (symbol 123 [] (codes "\n" ++ rest) ts no_blanks.7 refl (line rest ts h)))))
+    (space (codes "{\n" ++ rest) (codes "{" ∷ ts) (symbol 123 [] (codes "\n" ++ rest) ts no_blanks.7 refl
+    (line rest ts h)))))
 
-import_piece : Closed (codes "import qualified Prelude;\n") (codes "import" ∷ codes "qualified" ∷ codes "Prelude" ∷ codes ";" ∷ [])
+import_piece : Closed (codes "import qualified Prelude;\n")
+    (codes "import" ∷ codes "qualified" ∷ codes "Prelude" ∷ codes ";" ∷ [])
 import_piece rest ts h =
-    word (codes "import") (codes " qualified Prelude;\n" ++ rest) (codes "qualified" ∷ codes "Prelude" ∷ codes ";" ∷ ts) words_known.2 blank_no_flat.0
+    word (codes "import") (codes " qualified Prelude;\n" ++ rest)
+    (codes "qualified" ∷ codes "Prelude" ∷ codes ";" ∷ ts) words_known.2 blank_no_flat.0
     (space (codes "qualified Prelude;\n" ++ rest) (codes "qualified" ∷ codes "Prelude" ∷ codes ";" ∷ ts)
-    (word (codes "qualified") (codes " Prelude;\n" ++ rest) (codes "Prelude" ∷ codes ";" ∷ ts) words_known.3 blank_no_flat.0
+    (word (codes "qualified") (codes " Prelude;\n" ++ rest)
+    (codes "Prelude" ∷ codes ";" ∷ ts) words_known.3 blank_no_flat.0
     (space (codes "Prelude;\n" ++ rest) (codes "Prelude" ∷ codes ";" ∷ ts)
-    (word (codes "Prelude") (codes ";\n" ++ rest) (codes ";" ∷ ts) words_known.4 symbols_no_flat.3 (end_piece rest ts h)))))
+    (word (codes "Prelude") (codes ";\n" ++ rest) (codes ";" ∷ ts) words_known.4 symbols_no_flat.3
+    (end_piece rest ts h)))))
 
 head_piece : (at : List ℕ) (names : Tokens) → is_module_name at ≡ true → list_all is_variable_name names ≡ true
-    → Closed (head_line at names) (codes "module" ∷ (codes "U0." ++ at) ∷ codes "(" ∷ (export_tokens at names ++ codes ")" ∷ codes "where" ∷ codes "{" ∷ []))
+    → Closed (head_line at names) (codes "module" ∷ (codes "U0." ++ at) ∷ codes "(" ∷
+    (export_tokens at names ++ codes ")" ∷ codes "where" ∷ codes "{" ∷ []))
 head_piece at names m h =
     open_closed (codes "module U0." ++ at ++ codes " (" ++ name_list at names) (codes ") where {\n")
-    (codes "module" ∷ (codes "U0." ++ at) ∷ codes "(" ∷ export_tokens at names) (codes ")" ∷ codes "where" ∷ codes "{" ∷ [])
-    (closed_open (codes "module U0." ++ at ++ codes " (") (name_list at names) (codes "module" ∷ (codes "U0." ++ at) ∷ codes "(" ∷ []) (export_tokens at names)
-    (open_closed (codes "module U0." ++ at) (codes " (") (codes "module" ∷ (codes "U0." ++ at) ∷ []) (codes "(" ∷ []) (module_piece at m) bracket_piece (λ rest. blank_no_flat.0))
+    (codes "module" ∷ (codes "U0." ++ at) ∷ codes "(" ∷ export_tokens at names)
+    (codes ")" ∷ codes "where" ∷ codes "{" ∷ [])
+    (closed_open (codes "module U0." ++ at ++ codes " (") (name_list at names)
+    (codes "module" ∷ (codes "U0." ++ at) ∷ codes "(" ∷ []) (export_tokens at names)
+    (open_closed (codes "module U0." ++ at) (codes " (") (codes "module" ∷ (codes "U0." ++ at) ∷ []) (codes "(" ∷ [])
+    (module_piece at m) bracket_piece (λ rest. blank_no_flat.0))
     (exports_piece at names m h))
     where_piece (λ rest. symbols_no_flat.1)
 
@@ -614,8 +699,10 @@ last_piece : Lexed (codes "}\n") (codes "}" ∷ [])
 last_piece = symbol 125 [] (codes "\n") [] no_blanks.8 refl (line [] [] refl)
 
 tokens_joined : (at : List ℕ) (names : Tokens) (bs : List Binding)
-    → (((codes "module" ∷ (codes "U0." ++ at) ∷ codes "(" ∷ (export_tokens at names ++ codes ")" ∷ codes "where" ∷ codes "{" ∷ []))
-    ++ codes "import" ∷ codes "qualified" ∷ codes "Prelude" ∷ codes ";" ∷ []) ++ flat_map (binding_tokens at) bs) ++ codes "}" ∷ []
+    → (((codes "module" ∷ (codes "U0." ++ at) ∷ codes "(" ∷
+    (export_tokens at names ++ codes ")" ∷ codes "where" ∷ codes "{" ∷ []))
+    ++ codes "import" ∷ codes "qualified" ∷ codes "Prelude" ∷ codes ";" ∷ []) ++ flat_map (binding_tokens at) bs)
+    ++ codes "}" ∷ []
     ≡ flat_tokens at names (items_of at bs)
 tokens_joined at names bs =
     let e : Tokens = export_tokens at names in
@@ -627,16 +714,20 @@ tokens_joined at names bs =
     append_assoc ((e ++ w) ++ i) f z ∙ (append_assoc (e ++ w) i (f ++ z) ∙ append_assoc e w (i ++ (f ++ z))) in
     ap (λ (t : Tokens). codes "module" ∷ (codes "U0." ++ at) ∷ codes "(" ∷ t) a
 
-text_lexed : (m : PlainModule) (exports : Tokens) → is_module_name m.name ≡ true → AllLawful m.bindings → list_all is_variable_name exports ≡ true
+text_lexed : (m : PlainModule) (exports : Tokens) → is_module_name m.name ≡ true → AllLawful m.bindings
+    → list_all is_variable_name exports ≡ true
     → Lexed (text_with m exports) (flat_tokens m.name exports (items_of m.name m.bindings))
 text_lexed m exports n law h =
     let at : List ℕ = m.name in
-    let heads : Tokens = codes "module" ∷ (codes "U0." ++ at) ∷ codes "(" ∷ (export_tokens at exports ++ codes ")" ∷ codes "where" ∷ codes "{" ∷ []) in
+    let heads : Tokens = codes "module" ∷ (codes "U0." ++ at) ∷ codes "(" ∷
+    (export_tokens at exports ++ codes ")" ∷ codes "where" ∷ codes "{" ∷ []) in
     let imports : Tokens = codes "import" ∷ codes "qualified" ∷ codes "Prelude" ∷ codes ";" ∷ [] in
     subst (λ (t : Tokens). Lexed (text_with m exports) t) (tokens_joined at exports m.bindings)
-    (closed_closed (head_line at exports ++ codes "import qualified Prelude;\n") (flat_map (binding_lines at) m.bindings) (heads ++ imports)
+    (closed_closed (head_line at exports ++ codes "import qualified Prelude;\n")
+    (flat_map (binding_lines at) m.bindings) (heads ++ imports)
     (flat_map (binding_tokens at) m.bindings)
-    (closed_closed (head_line at exports) (codes "import qualified Prelude;\n") heads imports (head_piece at exports n h) import_piece)
+    (closed_closed (head_line at exports) (codes "import qualified Prelude;\n") heads imports
+    (head_piece at exports n h) import_piece)
     (bindings_piece at m.bindings n law) (codes "}\n") (codes "}" ∷ []) last_piece)
 
 -- exported names are declared ones
@@ -648,14 +739,17 @@ all_any : {X : Type 0} (p : X → Bool) (xs : List X) → list_all p xs ≡ not 
 all_any p [] = refl
 all_any p (x ∷ xs) = by_cases (p x) (all_any p xs)
   where
-    by_cases : (t : Bool) → list_all p xs ≡ not (list_any (λ y. not (p y)) xs) → t && list_all p xs ≡ not (not t || list_any (λ y. not (p y)) xs)
+    by_cases : (t : Bool) → list_all p xs ≡ not (list_any (λ y. not (p y)) xs)
+        → t && list_all p xs ≡ not (not t || list_any (λ y. not (p y)) xs)
     by_cases true h = h
     by_cases false h = refl
 
-exported_all : (names exports : Tokens) → IsPermutation names exports → list_all is_variable_name names ≡ true → list_all is_variable_name exports ≡ true
+exported_all : (names exports : Tokens) → IsPermutation names exports → list_all is_variable_name names ≡ true
+    → list_all is_variable_name exports ≡ true
 exported_all names exports p h =
     all_any is_variable_name exports
-    ∙ (ap not (sym (list_any-IsPermutation (λ (x : List ℕ). not (is_variable_name x)) names exports p)) ∙ (sym (all_any is_variable_name names) ∙ h))
+    ∙ (ap not (sym (list_any-IsPermutation (λ (x : List ℕ). not (is_variable_name x)) names exports p))
+    ∙ (sym (all_any is_variable_name names) ∙ h))
 
 -- one list of values
 one_items : (tokens : Tokens) (bs cs : List Binding) → AreItems bs tokens → AreItems cs tokens → bs ≡ cs
@@ -674,11 +768,13 @@ one_items tokens (b ∷ bs) (c ∷ cs) k j =
     ap (λ (x : List Binding). b ∷ x) (rest ∙ tail) ∙ sym f.1
 
 -- the law
-pub reads_back : (m : PlainModule) (source text : List ℕ) → is_module_name m.name ≡ true → Spells m source → IsFlatText m text → ReadsBack m text
+pub reads_back : (m : PlainModule) (source text : List ℕ) → is_module_name m.name ≡ true → IsSourceOf m source
+    → IsFlatText m text → ReadsBack m text
 reads_back m source text n s f =
     let law = items_lawful m.bindings s.items s.listed in
     let there = items_back m.name m.bindings n law in
-    let lexed = text_lexed m f.exports n law (exported_all (names_of m.bindings) f.exports f.same (named_all m.bindings law)) in
+    let lexed = text_lexed m f.exports n law (exported_all (names_of m.bindings) f.exports f.same
+    (named_all m.bindings law)) in
     let tokens : Tokens = flat_tokens m.name f.exports (items_of m.name m.bindings) in
     let here : Lexed text tokens = subst (λ (t : List ℕ). Lexed t tokens) (sym f.written) lexed in
     record {
@@ -686,5 +782,9 @@ reads_back m source text n s f =
       items = items_of m.name m.bindings;
       same = f.same;
       lexed = record { holds = here; only = λ other h. one_reading (skip_blanks text) other tokens h here };
-      listed = record { holds = there; only = λ other h. one_items (plain_items m.name m.bindings) other m.bindings h there };
+      listed = record {
+        holds = there;
+        only = λ other h. one_items
+            (plain_items m.name m.bindings) other m.bindings h there;
+      };
     }

@@ -6,7 +6,8 @@ use Rattle.std.proofs.Math.Seq.{take-append_seam, drop-append_seam}
 use Rattle.backpack_run.specs.Shape.{run_len, first_passes}
 
 -- a run that ends is as long as it is
-run_len-run : {X : Type 0} (p : X → Bool) (xs rest : List X) → list_all p xs ≡ true → first_passes p rest ≡ false → run_len p (xs ++ rest) ≡ length xs
+run_len-run : {X : Type 0} (p : X → Bool) (xs rest : List X) → list_all p xs ≡ true → first_passes p rest ≡ false
+    → run_len p (xs ++ rest) ≡ length xs
 run_len-run p [] [] h s = refl
 run_len-run p [] (r ∷ rest) h s = rw s refl
 run_len-run p (x ∷ xs) rest h s = grind (arith, common_steps, run_len-run p xs rest)
@@ -20,8 +21,10 @@ run_len-stop p [] = refl
 run_len-stop p (x ∷ xs) = grind (arith, common_steps, add-one, run_len-stop p xs)
 
 -- a list is cut at the end of its run
-pub run_front : {X : Type 0} (p : X → Bool) (all xs rest : List X) → all ≡ xs ++ rest → list_all p xs ≡ true → first_passes p rest ≡ false → take (run_len p all) all ≡ xs
+pub run_front : {X : Type 0} (p : X → Bool) (all xs rest : List X) → all ≡ xs ++ rest → list_all p xs ≡ true
+    → first_passes p rest ≡ false → take (run_len p all) all ≡ xs
 run_front p all xs rest e h s = let n = run_len-run p xs rest h s in rw (e, n) (take-append_seam xs rest)
 
-pub run_back : {X : Type 0} (p : X → Bool) (all xs rest : List X) → all ≡ xs ++ rest → list_all p xs ≡ true → first_passes p rest ≡ false → drop (run_len p all) all ≡ rest
+pub run_back : {X : Type 0} (p : X → Bool) (all xs rest : List X) → all ≡ xs ++ rest → list_all p xs ≡ true
+    → first_passes p rest ≡ false → drop (run_len p all) all ≡ rest
 run_back p all xs rest e h s = let n = run_len-run p xs rest h s in rw (e, n) (drop-append_seam xs rest)

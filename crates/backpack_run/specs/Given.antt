@@ -1,4 +1,5 @@
--- What a project gives for a target: the text of its flat program, or what refuses it first. Each file is read where the files before
+-- What a project gives for a target: the text of its flat program, or what refuses it first. Each file is read where
+-- the files before
 -- it pass.
 use Rattle.std.specs.Prelude.{◌≡◌, ℕ, List, []}
 use Rattle.bp_checks.specs.Check.{Check, ◌>>=◌, ◌>>◌, given}
@@ -11,9 +12,9 @@ use Rattle.hs_plain.specs.Text.{IsFlatText}
 use Rattle.backpack_run.specs.Paths.{project_path, package_path, module_path}
 use Rattle.backpack_run.specs.Project.{IsProject, IsPackage}
 use Rattle.bp_checks.specs.Refused.{Refused, Wrong, defect_at, spelled, needed}
-use Rattle.backpack_run.specs.Source.{Spells}
+use Rattle.backpack_run.specs.Source.{IsSourceOf}
 use Rattle.backpack_run.specs.Stages.{file}
-use Rattle.backpack_run.specs.Typing.{entries_of, AreTyped, IsFirstIll}
+use Rattle.backpack_run.specs.Typing.{assumptions_of, AreTyped, IsFirstIll}
 
 -- the package that the project names
 abbrev pub named_package : List File → Check Text Refused
@@ -39,7 +40,7 @@ target_module files target = do
 abbrev pub source : List File → Text → Text → Check PlainModule Refused
 source files name at = do
   content ← file files (module_path name at) name at
-  spelled (λ m. (m.name ≡ at) × Spells m content) (defect_at Syntax name at (Offset 0))
+  spelled (λ m. (m.name ≡ at) × IsSourceOf m content) (defect_at Syntax name at (Offset 0))
 
 -- the target's module, read
 abbrev pub read_target : List File → Text → Check PlainModule Refused
@@ -50,8 +51,9 @@ read_target files target = do
 -- Each value of the module has its declared type, or the first that has not is refused.
 abbrev pub typed : Text → PlainModule → Check (Unit {0}) Refused
 typed name m = record {
-  passes = λ _. AreTyped (entries_of m.bindings) m.bindings;
-  fails = λ r. (place : ℕ) × (first : IsFirstIll (entries_of m.bindings) m.bindings place) × (r ≡ Wrong (defect_at IllTyped name m.name (Named first.it.occ)));
+  passes = λ _. AreTyped (assumptions_of m.bindings) m.bindings;
+  fails = λ r. (place : ℕ) × (first : IsFirstIll (assumptions_of m.bindings) m.bindings place)
+      × (r ≡ Wrong (defect_at IllTyped name m.name (Named first.it.occ)));
 }
 
 -- the target's module, read and checked

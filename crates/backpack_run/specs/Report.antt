@@ -7,7 +7,8 @@ use Rattle.bp_base.specs.declared.defect.LimitHit.{LimitHit}
 use Rattle.bp_base.specs.declared.defect.Item.{Item}
 use Rattle.bp_base.specs.declared.defect.Item.TheVariants.{Nothing, Offset, Line, Named, Old}
 use Rattle.backpack_run.specs.declared.report.Status.{Status}
-use Rattle.backpack_run.specs.declared.report.Status.TheVariants.{Done, Refused, Usage, ReadFault, StoreFault, WriteFault, NoMemory, Limit}
+use Rattle.backpack_run.specs.declared.report.Status.TheVariants.{Done, Refused, Usage, ReadFault, StoreFault}
+use Rattle.backpack_run.specs.declared.report.Status.TheVariants.{WriteFault, NoMemory, Limit}
 
 -- the exit status
 abbrev pub status_number : Status → ℕ

@@ -1,5 +1,6 @@
 -- The tokens of a value, as the reader cuts them out before it looks at each.
-use Rattle.std.specs.Prelude.{◌≡◌, ◌≢◌, ◌⊎◌, ℕ, ◌+◌, Bool, true, false, ◌||◌, not, Some, List, [], ◌∷◌, ◌++◌, map, IsTrue, codes, if◌then◌else◌}
+use Rattle.std.specs.Prelude.{◌≡◌, ◌≢◌, ◌⊎◌, ℕ, ◌+◌, Bool, true, false, ◌||◌, not, Some, List, [], ◌∷◌, ◌++◌, map}
+use Rattle.std.specs.Prelude.{IsTrue, codes, if◌then◌else◌}
 use Rattle.std.specs.List.{list_all}
 use Rattle.std.specs.Ordering.{nat_cmp}
 use Rattle.std.specs.Cmp.Lexicographic.{slice_cmp}
@@ -33,20 +34,21 @@ pub record LeadsWords (tokens : List (List ℕ)) (occ : List ℕ) (args words re
   pub ended : first_passes is_no_end rest ≡ false
 
 -- a semicolon, which may be left out before the closing brace at the end
-abbrev pub Ends : List (List ℕ) → List (List ℕ) → Type 0
-Ends tokens rest = (tokens ≡ codes ";" ∷ rest) ⊎ ((rest ≡ codes "}" ∷ []) × (tokens ≡ rest))
+abbrev pub EndsItem : List (List ℕ) → List (List ℕ) → Type 0
+EndsItem tokens rest = (tokens ≡ codes ";" ∷ rest) ⊎ ((rest ≡ codes "}" ∷ []) × (tokens ≡ rest))
 
 -- the tokens of a value with a semicolon after it
-pub record LeadsShape (tokens : List (List ℕ)) (occ : List ℕ) (arrows : ℕ) (args words rest : List (List ℕ)) : Type 0 where
+pub record LeadsShape (tokens : List (List ℕ)) (occ : List ℕ) (arrows : ℕ)
+    (args words rest : List (List ℕ)) : Type 0 where
   pub between : List (List ℕ)
   pub behind : List (List ℕ)
   pub typed : LeadsType tokens occ arrows between
   pub cut : LeadsWords between occ args words behind
-  pub ends : Ends behind rest
+  pub ends : EndsItem behind rest
 
 -- the set holds these names
-abbrev pub Holds : BTreeSet (List ℕ) → List (List ℕ) → Type 0
-Holds set names = (name : List ℕ) → contains (slice_cmp nat_cmp) set name ≡ is_among name names
+abbrev pub HasNames : BTreeSet (List ℕ) → List (List ℕ) → Type 0
+HasNames set names = (name : List ℕ) → contains (slice_cmp nat_cmp) set name ≡ is_among name names
 
 -- these tokens are the value's
 pub record IsBuilt (occ : List ℕ) (arrows : ℕ) (args words : List (List ℕ)) (b : Binding) : Type 0 where

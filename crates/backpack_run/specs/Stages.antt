@@ -36,5 +36,6 @@ found_file files path = record {
 abbrev pub file : List File → Text → Text → Text → Check Text Refused
 file files path component at = record {
   passes = λ content. HasFile files path content;
-  fails = λ r. ((content_at files path ≡ None) × (r ≡ Wrong (defect_at NoSource component at (Named path)))) ⊎ (IsTooLong files path × (r ≡ Passed file_limit));
+  fails = λ r. ((content_at files path ≡ None) × (r ≡ Wrong (defect_at NoSource component at (Named path))))
+      ⊎ (IsTooLong files path × (r ≡ Passed file_limit));
 }

@@ -1,5 +1,6 @@
 -- Which values of a plain module have their declared types (Haskell 2010 Report, sections 3.2, 3.3 and 4.4.3.1).
-use Rattle.std.specs.Prelude.{◌≡◌, ◌+◌, ℕ, zero, suc, Option, Some, None, List, [], ◌∷◌, ◌++◌, length, map, if◌then◌else◌}
+use Rattle.std.specs.Prelude.{◌≡◌, ◌+◌, ℕ, zero, suc, Option, Some, None, List, [], ◌∷◌, ◌++◌, length, map}
+use Rattle.std.specs.Prelude.{if◌then◌else◌}
 use Rattle.backpack_run.specs.Characters.{is_text}
 use Rattle.hs_plain.specs.declared.plain.Atom.{Atom}
 use Rattle.hs_plain.specs.declared.plain.Atom.TheVariants.{Number, Argument, Declared}
@@ -13,12 +14,12 @@ pub data Plain : Type 0 where
   function : Plain → Plain → Plain
 
 -- a name with its type
-pub record Entry : Type 0 where
+pub record Assumption : Type 0 where
   pub name : List ℕ
   pub type : Plain
 
 -- the type of the name: that of its first entry
-abbrev pub type_in : List Entry → List ℕ → Option Plain
+abbrev pub type_in : List Assumption → List ℕ → Option Plain
 type_in [] name = None
 type_in (e ∷ es) name = if is_text name e.name then Some e.type else type_in es name
 
@@ -28,43 +29,46 @@ declared_type zero = integer
 declared_type (suc arrows) = function integer (declared_type arrows)
 
 -- what the module declares
-abbrev pub entries_of : List Binding → List Entry
-entries_of bindings = map (λ b. record { name = b.occ; type = declared_type b.arrows }) bindings
+abbrev pub assumptions_of : List Binding → List Assumption
+assumptions_of bindings = map (λ b. record { name = b.occ; type = declared_type b.arrows }) bindings
 
 -- A name has its type, a number has the type `Int`.
-abbrev pub AtomHas : List Entry → List Entry → Atom → Plain → Type 0
+abbrev pub AtomHas : List Assumption → List Assumption → Atom → Plain → Type 0
 AtomHas globals locals (Number value) t = t ≡ integer
 AtomHas globals locals (Argument occ) t = type_in locals occ ≡ Some t
 AtomHas globals locals (Declared occ) t = type_in globals occ ≡ Some t
 
 -- What has the type t, applied to these atoms, has the type s: an application has the result of a function type whose
 -- parameter is its argument's type.
-abbrev pub Applies : List Entry → List Entry → Plain → List Atom → Plain → Type 0
+abbrev pub Applies : List Assumption → List Assumption → Plain → List Atom → Plain → Type 0
 Applies globals locals t [] s = t ≡ s
-Applies globals locals t (a ∷ more) s = (u : Plain) × (v : Plain) × (t ≡ function u v) × AtomHas globals locals a u × Applies globals locals v more s
+Applies globals locals t (a ∷ more) s = (u : Plain) × (v : Plain) × (t ≡ function u v) × AtomHas globals locals a u
+    × Applies globals locals v more s
 
 -- the first atom, applied to the others, has the type
-abbrev pub AtomsHave : List Entry → List Entry → List Atom → Plain → Type 0
+abbrev pub AtomsHave : List Assumption → List Assumption → List Atom → Plain → Type 0
 AtomsHave globals locals [] s = ⊥
 AtomsHave globals locals (a ∷ more) s = (t : Plain) × AtomHas globals locals a t × Applies globals locals t more s
 
--- A clause with these arguments has the type where its right side has the result type under guessed types of its arguments.
-abbrev pub ClauseHas : List Entry → List Entry → List (List ℕ) → List Atom → Plain → Type 0
+-- A clause with these arguments has the type where its right side has the result type under guessed types of its
+-- arguments.
+abbrev pub ClauseHas : List Assumption → List Assumption → List (List ℕ) → List Atom → Plain → Type 0
 ClauseHas globals locals [] atoms t = AtomsHave globals locals atoms t
 ClauseHas globals locals (arg ∷ args) atoms t =
-    (u : Plain) × (v : Plain) × (t ≡ function u v) × ClauseHas globals (record { name = arg; type = u } ∷ locals) args atoms v
+    (u : Plain) × (v : Plain) × (t ≡ function u v)
+    × ClauseHas globals (record { name = arg; type = u } ∷ locals) args atoms v
 
 -- the value's clause has its declared type
-abbrev pub IsTyped : List Entry → Binding → Type 0
+abbrev pub IsTyped : List Assumption → Binding → Type 0
 IsTyped globals b = ClauseHas globals [] b.args b.atoms (declared_type b.arrows)
 
 -- all values have their declared types
-abbrev pub AreTyped : List Entry → List Binding → Type 0
+abbrev pub AreTyped : List Assumption → List Binding → Type 0
 AreTyped globals [] = Unit {0}
 AreTyped globals (b ∷ bs) = IsTyped globals b × AreTyped globals bs
 
 -- the first value that has not its declared type stands behind so many others
-pub record IsFirstIll (globals : List Entry) (bindings : List Binding) (place : ℕ) : Type 0 where
+pub record IsFirstIll (globals : List Assumption) (bindings : List Binding) (place : ℕ) : Type 0 where
   pub before : List Binding
   pub it : Binding
   pub after : List Binding

@@ -3,8 +3,8 @@ ghost use Rattle.std.specs.Prelude.{◌≡◌, ◌≢◌, ◌≤◌, ◌^◌, �
 ghost use Rattle.std.specs.List.{list_all};
 ghost use Rattle.bp_base.specs.Lists.{AreDistinct, IsOnly};
 ghost use Rattle.backpack_run.specs.Characters.{is_variable_name};
-ghost use Rattle.backpack_run.specs.Source.{number_of, value_after, atom_of, is_known, all_known, AreItems, Spells};
-ghost use Rattle.backpack_run.specs.Shape.{Holds, IsBuilt};
+ghost use Rattle.backpack_run.specs.Source.{number_of, value_after, atom_of, is_known, all_known, AreItems, IsSourceOf};
+ghost use Rattle.backpack_run.specs.Shape.{HasNames, IsBuilt};
 ghost use Rattle.hs_plain.specs.Plain.{names_of};
 ghost use Rattle.hs_plain.specs.declared.plain.Atom.{Atom};
 ghost use Rattle.hs_plain.specs.declared.plain.Binding.{Binding};
@@ -53,7 +53,7 @@ fn number_of(word: &[u8]) -> Option<u64>
 
 /// A set of these names, for look-ups, unless one stands twice.
 fn set_of(alloc: Global, names: &[Name]) -> Result<Option<BTreeSet<Name>>, AllocError>
-    ensures { IfOk result (λ found. MatchOption found (AreDistinct names.now → ⊥) (λ set. AreDistinct names.now × Holds set names.now)) }
+    ensures { IfOk result (λ found. MatchOption found (AreDistinct names.now → ⊥) (λ set. AreDistinct names.now × HasNames set names.now)) }
 {
     let mut set = BTreeSet::new(alloc);
     for name in names {
@@ -82,7 +82,7 @@ fn args_of(alloc: Global, words: &[Bytes]) -> Result<Option<Names>, AllocError>
 
 /// What a token of a right side is. The set holds the arguments of the clause.
 fn atom_of(alloc: Global, word: &[u8], args: &BTreeSet<Name>) -> Result<Option<Atom>, AllocError>
-    ensures { (names : List (List ℕ)) → Holds args.now names → IfOk result (λ atom. atom ≡ atom_of names word.now) }
+    ensures { (names : List (List ℕ)) → HasNames args.now names → IfOk result (λ atom. atom ≡ atom_of names word.now) }
 {
     if !is_variable_name(word) {
         return match number_of(word) {
@@ -104,7 +104,7 @@ fn atoms_of(
     words: &[Bytes],
     args: &BTreeSet<Name>,
 ) -> Result<Option<Atoms>, AllocError>
-    ensures { (names : List (List ℕ)) → Holds args.now names → IfOk result (λ found. MatchOption found
+    ensures { (names : List (List ℕ)) → HasNames args.now names → IfOk result (λ found. MatchOption found
         ((atoms : List Atom) → map (atom_of names) words.now ≢ map Some atoms)
         (λ atoms. map (atom_of names) words.now ≡ map Some atoms)) }
 {
@@ -179,7 +179,7 @@ fn names_of(alloc: Global, bindings: &[Binding]) -> Result<Names, AllocError>
 
 /// Whether an atom that is a declared name is in the set.
 fn is_known(atom: &Atom, declared: &BTreeSet<Name>) -> bool
-    ensures { (names : List (List ℕ)) → Holds declared.now names → result ≡ is_known names atom.now }
+    ensures { (names : List (List ℕ)) → HasNames declared.now names → result ≡ is_known names atom.now }
 {
     match atom {
         Atom::Number { .. } | Atom::Argument { .. } => true,
@@ -188,7 +188,7 @@ fn is_known(atom: &Atom, declared: &BTreeSet<Name>) -> bool
 }
 
 fn are_known(atoms: &[Atom], declared: &BTreeSet<Name>) -> bool
-    ensures { (names : List (List ℕ)) → Holds declared.now names → result ≡ list_all (is_known names) atoms.now }
+    ensures { (names : List (List ℕ)) → HasNames declared.now names → result ≡ list_all (is_known names) atoms.now }
 {
     for atom in atoms {
         if !is_known(atom, declared) {
@@ -200,7 +200,7 @@ fn are_known(atoms: &[Atom], declared: &BTreeSet<Name>) -> bool
 
 /// Whether each declared name of the right sides is in the set.
 fn all_known(bindings: &[Binding], declared: &BTreeSet<Name>) -> bool
-    ensures { (names : List (List ℕ)) → Holds declared.now names → result ≡ all_known names bindings.now }
+    ensures { (names : List (List ℕ)) → HasNames declared.now names → result ≡ all_known names bindings.now }
 {
     for binding in bindings {
         if !are_known(binding.atoms.as_slice(), declared) {
@@ -227,8 +227,8 @@ pub fn read_module(
     source: &[u8],
     name: &[u8],
 ) -> Result<Option<PlainModule>, AllocError>
-    ensures { IfOk result (λ found. MatchOption found ((m : PlainModule) → m.name ≡ name.now → Spells m source.now → ⊥)
-        (λ m. IsOnly (λ x. (x.name ≡ name.now) × Spells x source.now) m)) }
+    ensures { IfOk result (λ found. MatchOption found ((m : PlainModule) → m.name ≡ name.now → IsSourceOf m source.now → ⊥)
+        (λ m. IsOnly (λ x. (x.name ≡ name.now) × IsSourceOf x source.now) m)) }
 {
     let Some(tokens) = tokens_of(alloc, source)? else {
         return Ok(None);

@@ -1,7 +1,7 @@
 //! The tokens of a value, cut out before each is looked at.
 ghost use Rattle.std.specs.Prelude.{◌≡◌, ◌≢◌, ◌<◌, ◌≤◌, ◌↔◌, [], ◌∷◌, List, ℕ, length, codes, IfSome, IsTrue, MatchOption};
 ghost use Rattle.backpack_run.specs.Source.{arrows_then, LeadsType, module_tokens};
-ghost use Rattle.backpack_run.specs.Shape.{run_len, is_no_equals, is_no_end, LeadsWords, Ends, LeadsShape};
+ghost use Rattle.backpack_run.specs.Shape.{run_len, is_no_equals, is_no_end, LeadsWords, EndsItem, LeadsShape};
 
 use crate::characters::is_variable_name;
 use bp_base::Bytes;
@@ -156,7 +156,7 @@ pub fn is_end(tokens: &[Bytes]) -> bool
 
 /// What comes after the semicolon behind a value, which may be left out before the closing brace at the end.
 fn after_item<'a>(tokens: &'a [Bytes]) -> Option<&'a [Bytes]>
-    ensures { MatchOption result ((rest : List (List ℕ)) → Ends tokens.now rest → ⊥) (λ rest. Ends tokens.now rest.now) }
+    ensures { MatchOption result ((rest : List (List ℕ)) → EndsItem tokens.now rest → ⊥) (λ rest. EndsItem tokens.now rest.now) }
 {
     if is_end(tokens) {
         Some(tokens)

@@ -2,7 +2,7 @@
 ghost use Rattle.std.specs.Prelude.{◌≡◌, ◌↔◌, ◌+◌, ◌≤◌, ℕ, List, length, IfOk, IsTrue, MatchResult};
 ghost use Rattle.std.specs.List.{list_all};
 ghost use Rattle.bp_base.specs.Lists.{is_among};
-ghost use Rattle.backpack_run.specs.Typing.{entries_of, IsTyped, AreTyped, IsFirstIll, OnIll, checked_before};
+ghost use Rattle.backpack_run.specs.Typing.{assumptions_of, IsTyped, AreTyped, IsFirstIll, OnIll, checked_before};
 ghost use Rattle.backpack_run.specs.Arities.{HoldsArrows, atom_arrows, is_integer, atoms_fit, fits};
 ghost use Rattle.hs_plain.specs.declared.plain.Binding.{Binding};
 
@@ -125,7 +125,7 @@ fn fits(binding: &Binding, table: &BTreeMap<Name, u64>) -> bool
 /// Whether the clause of a value has its declared type.
 fn is_typed(binding: &Binding, table: &BTreeMap<Name, u64>) -> bool
     ensures { (bindings : List Binding) → HoldsArrows table.now bindings
-        → IsTrue result ↔ IsTyped (entries_of bindings) binding.now }
+        → IsTrue result ↔ IsTyped (assumptions_of bindings) binding.now }
 {
     fits(binding, table)
 }
@@ -137,7 +137,7 @@ fn check_each<L: Ledger>(
     steps: &mut Steps<L>,
 ) -> Result<(), TypeError>
     ensures outcome { (all : List Binding) → HoldsArrows table.now all
-        → MatchResult result (λ _. AreTyped (entries_of all) bindings.now) (OnIll (IsFirstIll (entries_of all) bindings.now)) }
+        → MatchResult result (λ _. AreTyped (assumptions_of all) bindings.now) (OnIll (IsFirstIll (assumptions_of all) bindings.now)) }
     ensures steps { MatchResult result (λ _. steps.new ≡ steps.old + length bindings.now) (λ e. steps.new ≡ steps.old + checked_before e) }
 {
     for (place, binding) in bindings.iter().enumerate() {
@@ -156,8 +156,8 @@ pub fn check_bindings<L: Ledger>(
     bindings: &[Binding],
     steps: &mut Steps<L>,
 ) -> Result<(), TypeError>
-    ensures outcome { MatchResult result (λ _. AreTyped (entries_of bindings.now) bindings.now)
-        (OnIll (IsFirstIll (entries_of bindings.now) bindings.now)) }
+    ensures outcome { MatchResult result (λ _. AreTyped (assumptions_of bindings.now) bindings.now)
+        (OnIll (IsFirstIll (assumptions_of bindings.now) bindings.now)) }
     ensures steps { MatchResult result (λ _. steps.new ≡ steps.old + length bindings.now) (λ e. steps.new ≡ steps.old + checked_before e) }
 {
     let table = arrows_of(alloc, bindings)?;

@@ -3,12 +3,12 @@ use Rattle.std.proofs.Common.{◌≡◌, List, [], ◌∷◌, ◌++◌, refl, sy
 use Rattle.bp_base.specs.Lists.{IsOnly, SoFar}
 
 -- one more item is read
-pub SoFar-step : {X S : Type 0} (Reads : S → List X → Type 0) (start rest next : S) (done : List X) (x : X)
-    → ((more : List X) → Reads next more → Reads rest (x ∷ more))
-    → ((more : List X) → Reads rest more → (m : List X) × (more ≡ x ∷ m) × Reads next m)
-    → SoFar Reads start rest done → SoFar Reads start next (done ++ x ∷ [])
-SoFar-step {X} Reads start rest next done x into from so = record {
-  sound = λ more h. subst (λ (l : List X). Reads start l) (sym (append_assoc done (x ∷ []) more))
+pub SoFar-step : {X S : Type 0} (Yields : S → List X → Type 0) (start rest next : S) (done : List X) (x : X)
+    → ((more : List X) → Yields next more → Yields rest (x ∷ more))
+    → ((more : List X) → Yields rest more → (m : List X) × (more ≡ x ∷ m) × Yields next m)
+    → SoFar Yields start rest done → SoFar Yields start next (done ++ x ∷ [])
+SoFar-step {X} Yields start rest next done x into from so = record {
+  sound = λ more h. subst (λ (l : List X). Yields start l) (sym (append_assoc done (x ∷ []) more))
       (so.sound (x ∷ more) (into more h));
   complete = λ all h.
       let k = so.complete all h in
@@ -17,15 +17,15 @@ SoFar-step {X} Reads start rest next done x into from so = record {
 }
 
 -- nothing is left
-pub SoFar-end : {X S : Type 0} (Reads : S → List X → Type 0) (start rest : S) (done : List X)
-    → Reads rest [] → ((more : List X) → Reads rest more → more ≡ []) → SoFar Reads start rest done
-    → IsOnly (Reads start) done
-SoFar-end {X} Reads start rest done here only so = record {
-  holds = subst (λ (l : List X). Reads start l) (append-nil done) (so.sound [] here);
+pub SoFar-end : {X S : Type 0} (Yields : S → List X → Type 0) (start rest : S) (done : List X)
+    → Yields rest [] → ((more : List X) → Yields rest more → more ≡ []) → SoFar Yields start rest done
+    → IsOnly (Yields start) done
+SoFar-end {X} Yields start rest done here only so = record {
+  holds = subst (λ (l : List X). Yields start l) (append-nil done) (so.sound [] here);
   only = λ all h. let k = so.complete all h in k.1 ∙ (ap (λ (l : List X). done ++ l) (only k.0 k.2) ∙ append-nil done);
 }
 
 -- the rest can't be read
-pub SoFar-none : {X S : Type 0} (Reads : S → List X → Type 0) (start rest : S) (done : List X)
-    → ((more : List X) → Reads rest more → ⊥) → SoFar Reads start rest done → (all : List X) → Reads start all → ⊥
-SoFar-none Reads start rest done none so all h = let k = so.complete all h in none k.0 k.2
+pub SoFar-none : {X S : Type 0} (Yields : S → List X → Type 0) (start rest : S) (done : List X)
+    → ((more : List X) → Yields rest more → ⊥) → SoFar Yields start rest done → (all : List X) → Yields start all → ⊥
+SoFar-none Yields start rest done none so all h = let k = so.complete all h in none k.0 k.2

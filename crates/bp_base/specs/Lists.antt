@@ -29,6 +29,6 @@ pub record IsOnly {X : Type 0} (P : X → Type 0) (it : X) : Type 0 where
 -- A loop that reads a list, item by item: what was read before the rest, with what is read from the rest, is what is
 -- read from
 -- the start.
-pub record SoFar {X S : Type 0} (Reads : S → List X → Type 0) (start rest : S) (done : List X) : Type 0 where
-  pub sound : (more : List X) → Reads rest more → Reads start (done ++ more)
-  pub complete : (all : List X) → Reads start all → (more : List X) × (all ≡ done ++ more) × Reads rest more
+pub record SoFar {X S : Type 0} (Yields : S → List X → Type 0) (start rest : S) (done : List X) : Type 0 where
+  pub sound : (more : List X) → Yields rest more → Yields start (done ++ more)
+  pub complete : (all : List X) → Yields start all → (more : List X) × (all ≡ done ++ more) × Yields rest more

@@ -1,5 +1,5 @@
-use bp_edges::*;
 use bp_base::{Bytes, Path};
+use bp_edges::*;
 use std::alloc::{AllocError, Global};
 use std::fs;
 use std::io::{self, Write};

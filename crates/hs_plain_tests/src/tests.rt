@@ -1,5 +1,5 @@
-use hs_plain::*;
 use bp_base::{Name, Names};
+use hs_plain::*;
 use std::alloc::{AllocError, Global};
 use std::test::Fail;
 

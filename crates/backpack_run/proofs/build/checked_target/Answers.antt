@@ -24,4 +24,5 @@ returns-clause-all g c = λ files n told k.
 pub returns-in_err-plain-clause-tells : goal.returns-in_err-plain-clause-tells
 returns-in_err-plain-clause-tells g c =
     let p = err_from_is_err_and c.from_residual.result c.from_residual.ensures.1 in
-    rw (p.1, p.2) (Tells-stopped _ (λ files. read_target files c.args.target.now) (λ files m. typed c.args.target.now m >> given m) c.in_err-plain.field-0.0 c.in_err-plain.ensures.tells)
+    rw (p.1, p.2) (Tells-stopped _ (λ files. read_target files c.args.target.now)
+    (λ files m. typed c.args.target.now m >> given m) c.in_err-plain.field-0.0 c.in_err-plain.ensures.tells)

@@ -1,9 +1,10 @@
 use Rattle.std.proofs.Common.{◌≡◌, ℕ, List, drop}
 use Rattle.std.specs.List.{list_all}
 use Rattle.backpack_run.specs.Source.{is_known}
-use Rattle.backpack_run.specs.Shape.{Holds}
+use Rattle.backpack_run.specs.Shape.{HasNames}
 use Rattle.backpack_run.proofs.reader.are_known.Given as goal
 
 abbrev pub invariant-loop-atom : goal.invariant-loop-atom
 invariant-loop-atom l =
-    (names : List (List ℕ)) → Holds l.declared names → list_all (is_known names) (drop l.atom-index l.atoms) ≡ list_all (is_known names) l.atoms
+    (names : List (List ℕ)) → HasNames l.declared names
+    → list_all (is_known names) (drop l.atom-index l.atoms) ≡ list_all (is_known names) l.atoms

@@ -6,4 +6,5 @@ use Rattle.backpack_run.proofs.shape.eat.Goals as goal
 pub returns-then-eq : goal.returns-then-eq
 returns-then-eq c =
     let s : c.as_bytes.result.now ≡ c.args.text.now = same_texts _ _ (sym c.eq.ensures ∙ c.if-eq.true) in
-    head_and_rest c.args.tokens.now c.first-item.result c.args.text.now c.in-len1-up.len_at_least c.first-item.is (sym c.as_bytes.ensures ∙ s)
+    head_and_rest c.args.tokens.now c.first-item.result c.args.text.now c.in-len1-up.len_at_least c.first-item.is
+    (sym c.as_bytes.ensures ∙ s)

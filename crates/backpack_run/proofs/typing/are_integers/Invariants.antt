@@ -6,4 +6,6 @@ use Rattle.hs_plain.specs.declared.plain.Binding.{Binding}
 
 abbrev pub invariant-loop-atom : goal.invariant-loop-atom
 invariant-loop-atom l =
-    (bindings : List Binding) → HoldsArrows l.table bindings → list_all (is_integer bindings l.args) (drop l.atom-index l.atoms) ≡ list_all (is_integer bindings l.args) l.atoms
+    (bindings : List Binding) → HoldsArrows l.table bindings
+    → list_all (is_integer bindings l.args) (drop l.atom-index l.atoms) ≡ list_all
+    (is_integer bindings l.args) l.atoms
