@@ -1,4 +1,4 @@
-mod Entries
+mod ContextLemmas
 mod Advancing
 mod Steps
 mod Standing

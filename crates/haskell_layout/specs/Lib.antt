@@ -1,6 +1,6 @@
 pub mod Role
 pub mod Stack
-pub mod Entries
+pub mod Contexts
 pub mod Rules
 pub mod Layout
 pub mod Progress

@@ -36,9 +36,9 @@ top_ended [] = nothing_made []
 top_ended (item ∷ outer) = record { made = end_of item; stack = outer }
 
 -- the answer is this error
-abbrev pub Refuses : Answer → LayoutError → Type 0
-Refuses answer (e.Layout index) = answer ≡ Err index
-Refuses answer e.NoMemory = Unit {0}
+abbrev pub IsRefused : Answer → LayoutError → Type 0
+IsRefused answer (e.Layout index) = answer ≡ Err index
+IsRefused answer e.NoMemory = Unit {0}
 
 -- layout fails at the index, where the rules do not go on
 abbrev pub IsStuck : ℕ → Option Moved → LayoutError → Type 0

@@ -1,7 +1,7 @@
 //! The layout of a token list, in one pass.
 ghost use Rattle.std.specs.Prelude.{◌≡◌, Ok, MatchResult};
 ghost use Rattle.haskell_layout.specs.Layout.{due_at_start, layout_of};
-ghost use Rattle.haskell_layout.specs.Progress.{Refuses};
+ghost use Rattle.haskell_layout.specs.Progress.{IsRefused};
 
 use crate::error::LayoutError;
 use crate::progress::Progress;
@@ -25,7 +25,7 @@ fn due_at_start(tokens: &[Token]) -> bool
 ///
 /// It takes time in proportion to the number of tokens.
 pub fn layout(alloc: Global, tokens: &Tokens, length: u64) -> Result<Tokens, LayoutError>
-    ensures { MatchResult result (λ out. layout_of tokens.now length ≡ Ok out) (Refuses (layout_of tokens.now length)) }
+    ensures { MatchResult result (λ out. layout_of tokens.now length ≡ Ok out) (IsRefused (layout_of tokens.now length)) }
 {
     let mut progress = Progress {
         stack: Stack::new(alloc),

@@ -3,7 +3,7 @@ ghost use Rattle.std.specs.Prelude.{◌≡◌, List, [], ◌∷◌, ◌++◌, So
 ghost use Rattle.haskell_layout.specs.Role.{role_of};
 ghost use Rattle.haskell_layout.specs.Rules.{nothing_made, opening, closed, closed_to, closed_over, item_begun, line_begun, block_begun, before_token, arrow_met, equals_met, where_met, token_met};
 ghost use Rattle.haskell_layout.specs.Layout.{token_moves, made_tokens, made_at_end, before_answer, ending};
-ghost use Rattle.haskell_layout.specs.Progress.{state_of, advanced, emitted, top_ended, Refuses, IsStuck};
+ghost use Rattle.haskell_layout.specs.Progress.{state_of, advanced, emitted, top_ended, IsRefused, IsStuck};
 
 use crate::error::LayoutError;
 use crate::role::{Made, Role, begins_item, made_token, makes_due, role_of};
@@ -197,7 +197,7 @@ impl Progress {
 
     /// The answer, at the end of a source of this length with so many tokens.
     pub fn finish(self, alloc: Global, length: u64, count: u64) -> Result<Tokens, LayoutError>
-        ensures { MatchResult result (λ out. before_answer self.out (ending length count (state_of self)) ≡ Ok out) (Refuses (ending length count (state_of self))) }
+        ensures { MatchResult result (λ out. before_answer self.out (ending length count (state_of self)) ≡ Ok out) (IsRefused (ending length count (state_of self))) }
     {
         if self.stack.finds(Sought::Explicit) {
             return Err(LayoutError::Layout { index: count });

@@ -76,7 +76,7 @@ pub struct Reach {
 
 /// An item, and what is found from it.
 #[derive(Clone, Copy, Debug, PartialEq, Eq)]
-pub struct Entry {
+pub struct Context {
     pub item: Item,
     pub reach: Reach,
 }
@@ -173,7 +173,7 @@ fn seeks(sought: Sought, item: Item) -> bool
 /// What is open, which contracts see as the list of its items, the innermost first.
 #[derive(Debug, Drop)]
 pub struct Stack {
-    entries: Items<Entry>,
+    contexts: Items<Context>,
 }
 
 impl Model for Stack {
@@ -182,11 +182,11 @@ impl Model for Stack {
 
     ghost Value = { List Item };
 
-    ghost use Rattle.haskell_layout.specs.Entries.{opened, Kept};
+    ghost use Rattle.haskell_layout.specs.Contexts.{opened, Kept};
 
-    ghost view = { λ s. opened [] s.entries };
+    ghost view = { λ s. opened [] s.contexts };
 
-    ghost invariant = { λ s. Kept [] s.entries };
+    ghost invariant = { λ s. Kept [] s.contexts };
 }
 
 impl Stack {
@@ -195,7 +195,7 @@ impl Stack {
         ensures { result ≡ [] }
     {
         Stack {
-            entries: Items::new(alloc),
+            contexts: Items::new(alloc),
         }
     }
 
@@ -203,20 +203,20 @@ impl Stack {
     fn reach(&self) -> Reach
         ensures { result ≡ reach_of self.now }
     {
-        let Some((entry, _)) = self.entries.as_slice().split_last() else {
+        let Some((context, _)) = self.contexts.as_slice().split_last() else {
             return nothing();
         };
-        entry.reach
+        context.reach
     }
 
     /// The innermost item.
     pub fn top(&self) -> Option<Item>
         ensures { MatchOption result (self.now ≡ []) (λ item. (outer : List Item) × (self.now ≡ item ∷ outer)) }
     {
-        let Some((entry, _)) = self.entries.as_slice().split_last() else {
+        let Some((context, _)) = self.contexts.as_slice().split_last() else {
             return None;
         };
-        let item = entry.item;
+        let item = context.item;
         Some(item)
     }
 
@@ -225,7 +225,7 @@ impl Stack {
         ensures { OnOk result (self.new ≡ item ∷ self.old) }
     {
         let reach = over(item, self.reach());
-        self.entries.push(Entry { item, reach })?;
+        self.contexts.push(Context { item, reach })?;
         Ok(())
     }
 
@@ -233,10 +233,10 @@ impl Stack {
     pub fn pop(&mut self) -> Option<Item>
         ensures { MatchOption result ((self.old ≡ []) × (self.new ≡ [])) (λ item. self.old ≡ item ∷ self.new) }
     {
-        let Some(entry) = self.entries.pop() else {
+        let Some(context) = self.contexts.pop() else {
             return None;
         };
-        Some(entry.item)
+        Some(context.item)
     }
 
     /// The column of the innermost block, 0 for an explicit one or for none.

@@ -10,7 +10,7 @@ use Rattle.hs_lex.specs.declared.reader.LexError.{LexError}
 use Rattle.hs_lex.specs.declared.reader.LexError.TheVariants as e
 use Rattle.hs_lex.specs.Lexicon.{kind_of}
 use Rattle.hs_lex.specs.Longest.{Longest}
-use Rattle.hs_lex.specs.Cover.{Piece, Cuts, is_sound, are_sound, next_column, column_behind, first_behind, token_of, tokens_of, Covered, Stops, Answers, Refuses}
+use Rattle.hs_lex.specs.Cover.{Piece, Cuts, is_sound, are_sound, next_column, column_behind, first_behind, token_of, tokens_of, Covered, Stops, Lexes, IsRefusedAs}
 
 -- The pieces before what is left, and the tokens that they gave.
 pub record SoFar (bytes left : List ℕ) (tokens : List Token) (offset column : ℕ) (first : Bool) : Type 0 where
@@ -88,7 +88,7 @@ so_far_stops bytes left tokens offset column first kind n s some longest = recor
 }
 
 pub refused : (bytes left : List ℕ) (tokens : List Token) (offset column : ℕ) (first : Bool) (kind : Kind) (n : ℕ) (error : LexError) →
-    SoFar bytes left tokens offset column first → 0 < n → Longest kind_of left kind n → Refuses kind offset error → Answers bytes (Err error)
+    SoFar bytes left tokens offset column first → 0 < n → Longest kind_of left kind n → IsRefusedAs kind offset error → Lexes bytes (Err error)
 refused bytes left tokens offset column first kind n (e.Lexical at) s some longest r =
     subst (λ m. Stops k.Broken bytes m) (sym r.1) (so_far_stops bytes left tokens offset column first k.Broken n s some (subst (λ x. Longest kind_of left x n) r.0 longest))
 refused bytes left tokens offset column first kind n (e.LeftOut at) s some longest r =

@@ -10,7 +10,7 @@ use Rattle.hs_lex.specs.declared.reader.LexError.{LexError}
 use Rattle.hs_lex.specs.declared.reader.LexError.TheVariants as e
 use Rattle.hs_lex.specs.Lexicon.{kind_of}
 use Rattle.hs_lex.specs.Longest.{Spelling, Longest}
-use Rattle.hs_lex.specs.Cover.{Piece, Stands, Cuts, is_sound, are_sound, tokens_of, Covered, Stops, Answers}
+use Rattle.hs_lex.specs.Cover.{Piece, IsPiece, Cuts, is_sound, are_sound, tokens_of, Covered, Stops, Lexes}
 
 none_some : {A : Type 0} (x : A) (o : Option A) → o ≡ None → o ≡ Some x → ⊥
 none_some x o p q = let both : None ≡ Some x = sym p ∙ q in cc
@@ -26,22 +26,22 @@ same_len g text x y n m one two = go (nat_lt n m) (nat_lt m n) refl refl
     go false true p q = absurd (not_longer g text y x m n two one (grind (arith, nat_tests)))
     go false false p q = grind (arith, nat_tests)
 
-pub same_piece : (p q : Piece) (text : List ℕ) → Stands p text → Stands q text → p ≡ q
+pub same_piece : (p q : Piece) (text : List ℕ) → IsPiece p text → IsPiece q text → p ≡ q
 same_piece p q text one two =
     let len : p.len ≡ q.len = same_len kind_of text p.kind q.kind p.len q.len one.longest two.longest in
     let both : Some p.kind ≡ Some q.kind = sym one.longest.spelled ∙ ap (λ n. kind_of (take n text) (drop n text)) len ∙ two.longest.spelled in
     let kind : p.kind ≡ q.kind = cc in
     λ i. record { kind = kind i; len = len i }
 
-nothing_stands : (p : Piece) → Stands p [] → ⊥
+nothing_stands : (p : Piece) → IsPiece p [] → ⊥
 nothing_stands p s = let le = s.longest.within in let lt = s.some in absurd (omega arith)
 
 -- no sound piece stands there
 abbrev pub Final : List ℕ → Type 0
-Final rest = (rest ≡ []) ⊎ ((p : Piece) × Stands p rest × (is_sound p.kind ≡ false))
+Final rest = (rest ≡ []) ⊎ ((p : Piece) × IsPiece p rest × (is_sound p.kind ≡ false))
 
-no_more : (q : Piece) (rest : List ℕ) → Final rest → Stands q rest → is_sound q.kind ≡ true → ⊥
-no_more q rest (inl none) s ok = nothing_stands q (subst (Stands q) none s)
+no_more : (q : Piece) (rest : List ℕ) → Final rest → IsPiece q rest → is_sound q.kind ≡ true → ⊥
+no_more q rest (inl none) s ok = nothing_stands q (subst (IsPiece q) none s)
 no_more q rest (inr bad) s ok = true≢false (sym ok ∙ ap (λ p. is_sound p.kind) (same_piece q bad.0 rest s bad.1) ∙ bad.2)
 
 -- two cuts by sound pieces that cannot go on are one
@@ -49,9 +49,9 @@ pub meet : (ps qs : List Piece) (text rest rest' : List ℕ) → Cuts ps text re
     Final rest → Final rest' → (ps ≡ qs) × (rest ≡ rest')
 meet [] [] text rest rest' h g a b f f' = (refl, sym h ∙ g)
 meet [] (q ∷ qs) text rest rest' h g a b f f' =
-    absurd (no_more q rest f (subst (Stands q) h g.0) (and_parts (is_sound q.kind) (are_sound qs) b).0)
+    absurd (no_more q rest f (subst (IsPiece q) h g.0) (and_parts (is_sound q.kind) (are_sound qs) b).0)
 meet (p ∷ ps) [] text rest rest' h g a b f f' =
-    absurd (no_more p rest' f' (subst (Stands p) g h.0) (and_parts (is_sound p.kind) (are_sound ps) a).0)
+    absurd (no_more p rest' f' (subst (IsPiece p) g h.0) (and_parts (is_sound p.kind) (are_sound ps) a).0)
 meet (p ∷ ps) (q ∷ qs) text rest rest' h g a b f f' =
     let same = same_piece p q text h.0 g.0 in
     let inner = meet ps qs (drop q.len text) rest rest' (subst (λ x. Cuts ps (drop x.len text) rest) same h.1) g.1
@@ -60,8 +60,8 @@ meet (p ∷ ps) (q ∷ qs) text rest rest' h g a b f f' =
 
 pub one_cover : (text : List ℕ) (ps qs : List Piece) → Cuts ps text [] → Cuts qs text [] → ps ≡ qs
 one_cover text [] [] h g = refl
-one_cover text [] (q ∷ qs) h g = absurd (nothing_stands q (subst (Stands q) h g.0))
-one_cover text (p ∷ ps) [] h g = absurd (nothing_stands p (subst (Stands p) g h.0))
+one_cover text [] (q ∷ qs) h g = absurd (nothing_stands q (subst (IsPiece q) h g.0))
+one_cover text (p ∷ ps) [] h g = absurd (nothing_stands p (subst (IsPiece p) g h.0))
 one_cover text (p ∷ ps) (q ∷ qs) h g =
     let same = same_piece p q text h.0 g.0 in
     ap (λ x. x ∷ ps) same ∙ ap (λ l. q ∷ l) (one_cover (drop q.len text) ps qs (subst (λ x. Cuts ps (drop x.len text) []) same h.1) g.1)
@@ -72,19 +72,19 @@ final_of kind text at bad s = inr (record { kind = kind; len = s.len }, s.stands
 covered_stops : (kind : Kind) (text : List ℕ) (tokens : List Token) (at : ℕ) → is_sound kind ≡ false → Covered text tokens → Stops kind text at → ⊥
 covered_stops kind text tokens at bad c s =
     let m = meet c.pieces s.pieces text [] s.rest c.cuts s.cuts c.sound s.sound (inl refl) (final_of kind text at bad s) in
-    nothing_stands (record { kind = kind; len = s.len }) (subst (Stands (record { kind = kind; len = s.len })) (sym m.1) s.stands)
+    nothing_stands (record { kind = kind; len = s.len }) (subst (IsPiece (record { kind = kind; len = s.len })) (sym m.1) s.stands)
 
 stops_same : (one two : Kind) (text : List ℕ) (at other : ℕ) → is_sound one ≡ false → is_sound two ≡ false → Stops one text at → Stops two text other → (one ≡ two) × (at ≡ other)
 stops_same one two text at other bad bad' s r =
     let m = meet s.pieces r.pieces text s.rest r.rest s.cuts r.cuts s.sound r.sound (final_of one text at bad s) (final_of two text other bad' r) in
     let p : Piece = record { kind = one; len = s.len } in
     let q : Piece = record { kind = two; len = r.len } in
-    (ap (λ x. x.kind) (same_piece p q r.rest (subst (Stands p) m.1 s.stands) r.stands), omega (arith, s.place, r.place, ap length m.1))
+    (ap (λ x. x.kind) (same_piece p q r.rest (subst (IsPiece p) m.1 s.stands) r.stands), omega (arith, s.place, r.place, ap length m.1))
 
 broken_left : k.Broken ≡ k.LeftOut → ⊥
 broken_left e = cc
 
-pub one_answer : (text : List ℕ) (one two : Result (List Token) LexError) → Answers text one → Answers text two →
+pub one_answer : (text : List ℕ) (one two : Result (List Token) LexError) → Lexes text one → Lexes text two →
     (one ≡ Err e.NoMemory → ⊥) → (two ≡ Err e.NoMemory → ⊥) → one ≡ two
 one_answer text (Ok a) (Ok b) h g x y =
     let m = meet h.pieces g.pieces text [] [] h.cuts g.cuts h.sound g.sound (inl refl) (inl refl) in

@@ -17,14 +17,14 @@ pub record Piece : Type 0 where
   pub len : ℕ
 
 -- a piece stands at the front of a text: it is the longest one that does
-pub record Stands (piece : Piece) (text : List ℕ) : Type 0 where
+pub record IsPiece (piece : Piece) (text : List ℕ) : Type 0 where
   pub some : 0 < piece.len
   pub longest : Longest kind_of text piece.kind piece.len
 
 -- The pieces stand at the front of the text, one behind the other, and rest is what they leave of it.
 abbrev pub Cuts : List Piece → List ℕ → List ℕ → Type 0
 Cuts [] text rest = text ≡ rest
-Cuts (p ∷ ps) text rest = Stands p text × Cuts ps (drop p.len text) rest
+Cuts (p ∷ ps) text rest = IsPiece p text × Cuts ps (drop p.len text) rest
 
 -- white space, a comment or a token
 abbrev pub is_sound : Kind → Bool
@@ -92,26 +92,26 @@ pub record Stops (kind : Kind) (text : List ℕ) (offset : ℕ) : Type 0 where
   pub len : ℕ
   pub cuts : Cuts pieces text rest
   pub sound : are_sound pieces ≡ true
-  pub stands : Stands (record { kind = kind; len = len }) rest
+  pub stands : IsPiece (record { kind = kind; len = len }) rest
   pub place : offset + length rest ≡ length text
 
 -- What the text is: covered by sound pieces, or the first other piece is broken or left out.
-abbrev pub Answers : List ℕ → Result (List Token) LexError → Type 0
-Answers text (Ok tokens) = Covered text tokens
-Answers text (Err (e.Lexical offset)) = Stops k.Broken text offset
-Answers text (Err (e.LeftOut offset)) = Stops k.LeftOut text offset
-Answers text (Err e.NoMemory) = Unit {0}
+abbrev pub Lexes : List ℕ → Result (List Token) LexError → Type 0
+Lexes text (Ok tokens) = Covered text tokens
+Lexes text (Err (e.Lexical offset)) = Stops k.Broken text offset
+Lexes text (Err (e.LeftOut offset)) = Stops k.LeftOut text offset
+Lexes text (Err e.NoMemory) = Unit {0}
 
 -- a piece of that kind at the offset is refused so
-abbrev pub Refuses : Kind → ℕ → LexError → Type 0
-Refuses kind at (e.Lexical offset) = (kind ≡ k.Broken) × (offset ≡ at)
-Refuses kind at (e.LeftOut offset) = (kind ≡ k.LeftOut) × (offset ≡ at)
-Refuses kind at e.NoMemory = Unit {0}
+abbrev pub IsRefusedAs : Kind → ℕ → LexError → Type 0
+IsRefusedAs kind at (e.Lexical offset) = (kind ≡ k.Broken) × (offset ≡ at)
+IsRefusedAs kind at (e.LeftOut offset) = (kind ≡ k.LeftOut) × (offset ≡ at)
+IsRefusedAs kind at e.NoMemory = Unit {0}
 
 -- what taking a piece answers: its token behind the others, or why it is refused
 abbrev pub Takes : List Token → List Token → List Token → Kind → ℕ → Result (Unit {0}) LexError → Type 0
 Takes old new more kind at (Ok done) = (new ≡ old ++ more) × (is_sound kind ≡ true)
-Takes old new more kind at (Err error) = Refuses kind at error
+Takes old new more kind at (Err error) = IsRefusedAs kind at error
 
 -- no two lists of pieces cover one text
 abbrev pub OneCover : Type 0
@@ -119,5 +119,5 @@ OneCover = (text : List ℕ) (ps qs : List Piece) → Cuts ps text [] → Cuts q
 
 -- no text has two answers, want of memory aside
 abbrev pub OneAnswer : Type 0
-OneAnswer = (text : List ℕ) (one two : Result (List Token) LexError) → Answers text one → Answers text two →
+OneAnswer = (text : List ℕ) (one two : Result (List Token) LexError) → Lexes text one → Lexes text two →
     (one ≡ Err e.NoMemory → ⊥) → (two ≡ Err e.NoMemory → ⊥) → one ≡ two

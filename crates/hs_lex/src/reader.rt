@@ -1,7 +1,7 @@
 //! The tokens of a source.
 ghost use Rattle.std.specs.Prelude.{◌≡◌};
 ghost use Rattle.hs_lex.specs.Classes.{is_in};
-ghost use Rattle.hs_lex.specs.Cover.{next_column, column_behind, has_ending, first_behind, token_of, Takes, Answers, OneCover, OneAnswer};
+ghost use Rattle.hs_lex.specs.Cover.{next_column, column_behind, has_ending, first_behind, token_of, Takes, Lexes, OneCover, OneAnswer};
 
 use crate::capital::front;
 use crate::class::{Class, count, holds};
@@ -110,7 +110,7 @@ fn take_piece(
 /// The tokens of a source (Haskell 2010 Report, chapter 2), with offsets in bytes from 0 and columns in characters from 1. The first
 /// piece that cannot be read, or that this project leaves out, is answered with the number of bytes before it.
 pub fn lex(alloc: Global, bytes: &[u8]) -> Result<Tokens, LexError>
-    ensures { Answers bytes.now result }
+    ensures { Lexes bytes.now result }
 {
     let mut tokens = Tokens::new(alloc);
     let mut left = bytes;

@@ -1,4 +1,4 @@
-use Rattle.haskell_layout.proofs.Entries.{last_item, rest_kept}
+use Rattle.haskell_layout.proofs.ContextLemmas.{last_item, rest_kept}
 use Rattle.haskell_layout.proofs.stack.Stack.pop.Goals as goal
 
 pub invariant_of-self-2 : goal.invariant_of-self-2

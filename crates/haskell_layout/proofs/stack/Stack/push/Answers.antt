@@ -1,4 +1,4 @@
-use Rattle.haskell_layout.proofs.Entries.{more_kept, more_items}
+use Rattle.haskell_layout.proofs.ContextLemmas.{more_kept, more_items}
 use Rattle.haskell_layout.proofs.stack.Stack.push.Goals as goal
 
 pub invariant_of-self-2 : goal.invariant_of-self-2

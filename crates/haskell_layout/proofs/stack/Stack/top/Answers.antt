@@ -1,5 +1,5 @@
 use Rattle.std.proofs.Common.{sym, ◌∙◌}
-use Rattle.haskell_layout.proofs.Entries.{last_item}
+use Rattle.haskell_layout.proofs.ContextLemmas.{last_item}
 use Rattle.haskell_layout.proofs.stack.Stack.top.Goals as goal
 
 pub returns : goal.returns
