@@ -28,7 +28,7 @@ struct Clause<'a> {
 }
 
 /// What comes after a token of this text.
-#[tactic(auto, using(bp_base::proofs::Texts::same_texts, bp_base::proofs::Texts::texts_same))]
+#[tactic(auto, using(bp_base::proofs::TextLemmas::same_texts, bp_base::proofs::TextLemmas::texts_same))]
 fn eat<'a>(tokens: &'a [Bytes], text: &[u8]) -> Option<&'a [Bytes]>
     ensures { MatchOption result ((rest : List (List ℕ)) → tokens.now ≢ text.now ∷ rest) (λ rest. tokens.now ≡ text.now ∷ rest.now) }
 {

@@ -1,7 +1,7 @@
-pub mod Reading
-pub mod Texts
-pub mod Sets
-pub mod Sorted
-pub mod Idents
-pub mod Holes
-mod Commas
+pub mod ReadingLemmas
+pub mod TextLemmas
+pub mod SetLemmas
+pub mod SortedLemmas
+pub mod IdentLemmas
+pub mod HoleLemmas
+mod CommaLemmas

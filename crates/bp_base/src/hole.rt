@@ -6,7 +6,7 @@ use crate::{Fill, Ident, Name, Unit};
 
 /// Whether no hole occurs in the identity. It takes no memory.
 #[cycle(closed)]
-#[tactic(auto, using(crate::proofs::Holes::hole_equations))]
+#[tactic(auto, using(crate::proofs::HoleLemmas::hole_equations))]
 pub fn is_closed(ident: &Ident) -> bool
     ensures { result ≡ closed ident.now }
 {
@@ -18,7 +18,7 @@ pub fn is_closed(ident: &Ident) -> bool
 
 /// Whether no hole occurs in the fills of the unit. It takes no memory.
 #[cycle(closed)]
-#[tactic(auto, using(crate::proofs::Holes::hole_equations))]
+#[tactic(auto, using(crate::proofs::HoleLemmas::hole_equations))]
 pub fn is_closed_unit(unit: &Unit) -> bool
     ensures { result ≡ unit_closed unit.now }
 {
@@ -39,7 +39,7 @@ fn are_closed(fills: &[Fill]) -> bool
 
 /// Whether the hole occurs in the identity. It takes no memory.
 #[cycle(occurs)]
-#[tactic(auto, using(crate::proofs::Holes::hole_equations))]
+#[tactic(auto, using(crate::proofs::HoleLemmas::hole_equations))]
 pub fn occurs(hole: &Name, ident: &Ident) -> bool
     ensures { result ≡ has_hole hole.now ident.now }
 {
@@ -50,7 +50,7 @@ pub fn occurs(hole: &Name, ident: &Ident) -> bool
 }
 
 #[cycle(occurs)]
-#[tactic(auto, using(crate::proofs::Holes::hole_equations))]
+#[tactic(auto, using(crate::proofs::HoleLemmas::hole_equations))]
 fn occurs_in_unit(hole: &Name, unit: &Unit) -> bool
     ensures { result ≡ unit_has_hole hole.now unit.now }
 {

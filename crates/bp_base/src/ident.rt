@@ -98,7 +98,7 @@ pub fn same_ident(a: &Ident, b: &Ident) -> bool
 
 /// Whether two units are equal: the components are, and all fills. It takes no memory.
 #[cycle(same)]
-#[tactic(auto, using(crate::proofs::Idents::unit_sameness))]
+#[tactic(auto, using(crate::proofs::IdentLemmas::unit_sameness))]
 pub fn same_unit(a: &Unit, b: &Unit) -> bool
     ensures { IsTrue result ↔ (a.now ≡ b.now) }
 {

@@ -1,7 +1,7 @@
 -- A walk leaves what its list leads to, each item once.
 use Rattle.std.proofs.Common.{◌≡◌, ◌↔◌, ◌⊎◌, inl, inr, List, [], ◌∷◌, ◌++◌, refl, sym, subst}
 use Rattle.bp_base.specs.Lists.{Among, AreDistinct}
-use Rattle.bp_base.proofs.Sets.{among-left, among-middle, among-either, distinct-push}
+use Rattle.bp_base.proofs.SetLemmas.{among-left, among-middle, among-either, distinct-push}
 use Rattle.bp_checks.specs.Walk.{Visits, Reached, IsClosed}
 use Rattle.bp_checks.specs.Walk.Visits.{finished, met, visited}
 use Rattle.bp_checks.specs.Walk.Reached.{first, further}

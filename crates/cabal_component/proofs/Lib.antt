@@ -1,2 +1,2 @@
-pub mod Refused
-pub mod Described
+pub mod RefusedLemmas
+pub mod DescribedLemmas

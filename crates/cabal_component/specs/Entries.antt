@@ -1,5 +1,6 @@
 -- The entries of mixins (Cabal manual, "mixins").
-use Rattle.std.specs.Prelude.{ℕ, ◌+◌, Bool, Option, Some, None, option_map, List, [], ◌∷◌, length, take, drop, map, codes, nat_lt, ◌==◌, ◌&&◌, not, if◌then◌else◌}
+use Rattle.std.specs.Prelude.{ℕ, ◌+◌, Bool, Option, Some, None, option_map, List, [], ◌∷◌, length, take, drop, map}
+use Rattle.std.specs.Prelude.{codes, nat_lt, ◌==◌, ◌&&◌, not, if◌then◌else◌}
 use Rattle.std.specs.List.{prefix_len}
 use Rattle.bp_base.specs.declared.linking.Rename.{Rename}
 use Rattle.cabal_text.specs.declared.tokens.Brackets.TheVariants.{Round}
@@ -61,7 +62,8 @@ abbrev pub hiding_with : List ℕ → Option (List (List ℕ)) → List (List �
 hiding_with dep None rest = None
 hiding_with dep (Some names) rest = mixin_with dep (Hiding names) rest
 
-abbrev pub entry_at : List ℕ → List (List ℕ) → Option (List (List ℕ) × List (List ℕ)) → Option (List (List ℕ) × List (List ℕ)) → Option Mixin
+abbrev pub entry_at : List ℕ → List (List ℕ) → Option (List (List ℕ) × List (List ℕ))
+    → Option (List (List ℕ) × List (List ℕ)) → Option Mixin
 entry_at dep rest (Some x) hiding = listed_with dep (renames_of x.0) x.1
 entry_at dep rest None (Some x) = hiding_with dep (names_of x.0) x.1
 entry_at dep rest None None = mixin_with dep Whole rest
@@ -69,7 +71,8 @@ entry_at dep rest None None = mixin_with dep Whole rest
 -- a dependency; renames in brackets, or `hiding` and names in brackets, or neither; and what it needs
 abbrev pub entry_of : List (List ℕ) → Option Mixin
 entry_of [] = None
-entry_of (dep ∷ rest) = if is_dependency dep then entry_at dep rest (bracket_of rest) (word_bracket (codes "hiding") rest) else None
+entry_of (dep ∷ rest) = if is_dependency dep then entry_at dep rest (bracket_of rest)
+    (word_bracket (codes "hiding") rest) else None
 
 -- the entries of a value
 abbrev pub mixins_of : List ℕ → Option (List Mixin)

@@ -22,7 +22,8 @@ pub record IsLawfulEntry (m : Mixin) : Type 0 where
   pub news : HasNewsApart m.provides
   pub olds : AreDistinct (map (λ r. r.from) m.needs)
 
--- No name stands twice among the own modules and signatures, and no dependency twice; entries are of dependencies; a library has
+-- No name stands twice among the own modules and signatures, and no dependency twice; entries are of dependencies; a
+-- library has
 -- no main file, and an executable no signatures, exposed modules or re-exports.
 pub record IsLawful (c : Component) : Type 0 where
   pub own : AreDistinct (own_names c)

@@ -1,5 +1,6 @@
 -- The lines of a package file that are refused.
-use Rattle.std.specs.Prelude.{ℕ, Bool, false, true, Option, None, Some, List, [], ◌∷◌, ◌++◌, map, codes, not, is_some, ◌||◌, ◌&&◌, if◌then◌else◌}
+use Rattle.std.specs.Prelude.{ℕ, Bool, false, true, Option, None, Some, List, [], ◌∷◌, ◌++◌, map, codes, not, is_some}
+use Rattle.std.specs.Prelude.{◌||◌, ◌&&◌, if◌then◌else◌}
 use Rattle.std.specs.List.{filter, flat_map, list_any}
 use Rattle.cabal_text.specs.declared.lines.Line.{Line}
 use Rattle.cabal_text.specs.Lines.{Block, blocks, deeper_than}
@@ -43,7 +44,8 @@ abbrev pub is_bad_executable : Field → Bool
 is_bad_executable f =
     if is_word f.name (codes "signatures") then true else
     (if is_word f.name (codes "main-is") then not (is_some (source_name f.value)) else
-    (if is_word f.name (codes "other-modules") then is_among (codes "Main") (or_none (module_names f.value)) else false))
+    (if is_word f.name (codes "other-modules") then is_among (codes "Main")
+    (or_none (module_names f.value)) else false))
 
 -- the field has a bad value, or may not stand there
 abbrev pub is_bad : Bool → Field → Bool
@@ -107,7 +109,8 @@ is_table_field name = lists_modules name || is_other_field name
 
 abbrev pub common_refused : List Line → List ℕ
 common_refused deeper =
-    shallow_lines deeper ++ map (λ f. f.line) (filter (λ f. is_table_field f.name) (fields_at (indent_in deeper) deeper))
+    shallow_lines deeper ++ map (λ f. f.line) (filter (λ f. is_table_field f.name)
+    (fields_at (indent_in deeper) deeper))
 
 abbrev pub stanza_refused : Head → Line → List Line → List ℕ
 stanza_refused Library l deeper = component_refused false l deeper
@@ -119,7 +122,8 @@ stanza_refused Other l deeper = l.number ∷ []
 -- the refused lines of a block of indent 0
 abbrev pub block_refused : Block → List ℕ
 block_refused block =
-    if is_some (field_of block.line.text) then [] else stanza_refused (head_of (head_words block.line.text)) block.line block.deeper
+    if is_some (field_of block.line.text) then [] else stanza_refused
+    (head_of (head_words block.line.text)) block.line block.deeper
 
 -- the refused lines of a package file
 abbrev pub package_refused : List Line → List ℕ

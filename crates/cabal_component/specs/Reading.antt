@@ -1,5 +1,6 @@
 -- The components that a package file gives. Where no line is refused, each value that is read here has its form.
-use Rattle.std.specs.Prelude.{◌≡◌, ℕ, Bool, true, false, Option, Some, None, List, [], ◌∷◌, ◌++◌, length, map, codes, is_some, ◌==◌, if◌then◌else◌}
+use Rattle.std.specs.Prelude.{◌≡◌, ℕ, Bool, true, false, Option, Some, None, List, [], ◌∷◌, ◌++◌, length, map, codes}
+use Rattle.std.specs.Prelude.{is_some, ◌==◌, if◌then◌else◌}
 use Rattle.std.specs.List.{filter_map}
 use Rattle.bp_base.specs.declared.linking.Rename.{Rename}
 use Rattle.cabal_text.specs.declared.lines.Line.{Line}
@@ -47,7 +48,8 @@ own_libraries ls = filter_map part_at ls
 abbrev pub is_own : List Line → List ℕ → Bool
 is_own ls name = is_among name (own_libraries ls)
 
--- the component that a name means: that of the own package, where it has a library of the name, or else the library of the package
+-- the component that a name means: that of the own package, where it has a library of the name, or else the library of
+-- the package
 -- of the name
 abbrev pub resolved : List ℕ → (List ℕ → Bool) → List ℕ → List ℕ
 resolved owner own name = if own name then library_name owner name else name
@@ -125,14 +127,16 @@ executable_with file owner own name fs = record {
 -- the component that a stanza with this head describes
 abbrev pub component_if : List ℕ → List ℕ → (List ℕ → Bool) → Head → List ℕ → List Field → Option Component
 component_if file owner own Library name fs = Some (library_with file owner own (component_name owner false name) fs)
-component_if file owner own Executable name fs = Some (executable_with file owner own (component_name owner true name) fs)
+component_if file owner own Executable name fs = Some
+    (executable_with file owner own (component_name owner true name) fs)
 component_if file owner own Common name fs = None
 component_if file owner own Ignored name fs = None
 component_if file owner own Other name fs = None
 
 abbrev pub component_in : List ℕ → List ℕ → (List ℕ → Bool) → Block → Option Component
 component_in file owner own block =
-    component_if file owner own (head_of (words_at block.line)) (named (words_at block.line)) (fields_at (indent_in block.deeper) block.deeper)
+    component_if file owner own (head_of (words_at block.line)) (named (words_at block.line))
+    (fields_at (indent_in block.deeper) block.deeper)
 
 abbrev pub components_in : List ℕ → List ℕ → (List ℕ → Bool) → List Line → List Component
 components_in file owner own ls = filter_map (component_in file owner own) (blocks 0 ls)

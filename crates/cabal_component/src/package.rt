@@ -226,7 +226,7 @@ fn twice_line(alloc: Global, places: &[Listing]) -> Result<Option<u64>, AllocErr
 }
 
 /// The first field that has a bad value, or the head where the main file is missing.
-#[tactic(auto, using(cabal_text::proofs::Sooner::least_append))]
+#[tactic(auto, using(cabal_text::proofs::SoonerLemmas::least_append))]
 fn value_line(
     alloc: Global,
     executable: bool,
@@ -240,7 +240,7 @@ fn value_line(
 }
 
 /// The first field that is given again, or that lists a name again.
-#[tactic(auto, using(cabal_text::proofs::Sooner::least_append))]
+#[tactic(auto, using(cabal_text::proofs::SoonerLemmas::least_append))]
 fn second_line(alloc: Global, executable: bool, fields: &[Field]) -> Result<Option<u64>, AllocError>
     ensures { IfOk result (λ line. line ≡ least_of (repeated executable fields.now ++ twice_lines (placed executable fields.now))) }
 {
@@ -250,7 +250,7 @@ fn second_line(alloc: Global, executable: bool, fields: &[Field]) -> Result<Opti
 }
 
 /// The first line that is refused for the fields of a component.
-#[tactic(auto, using(cabal_text::proofs::Sooner::least_append))]
+#[tactic(auto, using(cabal_text::proofs::SoonerLemmas::least_append))]
 fn fields_line(
     alloc: Global,
     executable: bool,
@@ -265,7 +265,7 @@ fn fields_line(
 }
 
 /// The first refused line of a component.
-#[tactic(auto, using(cabal_text::proofs::Sooner::least_append))]
+#[tactic(auto, using(cabal_text::proofs::SoonerLemmas::least_append))]
 fn component_line(
     alloc: Global,
     executable: bool,
@@ -336,7 +336,7 @@ fn table_line(fields: &[Field]) -> Option<u64>
 }
 
 /// The first refused line of a common stanza.
-#[tactic(auto, using(cabal_text::proofs::Sooner::least_append))]
+#[tactic(auto, using(cabal_text::proofs::SoonerLemmas::least_append))]
 fn common_line(alloc: Global, deeper: &[Line]) -> Result<Option<u64>, AllocError>
     ensures { IfOk result (λ line. line ≡ least_of (common_refused deeper.now)) }
 {
@@ -403,7 +403,7 @@ fn blocks_line(alloc: Global, lines: &[Line]) -> Result<Option<u64>, AllocError>
 }
 
 /// The first refused line of a package file.
-#[tactic(auto, using(cabal_text::proofs::Sooner::least_append))]
+#[tactic(auto, using(cabal_text::proofs::SoonerLemmas::least_append))]
 pub fn refused_line(alloc: Global, lines: &[Line]) -> Result<Option<u64>, AllocError>
     ensures { IfOk result (λ line. line ≡ least_of (package_refused lines.now)) }
 {

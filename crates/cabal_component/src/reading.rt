@@ -378,7 +378,7 @@ fn components_of(alloc: Global, file: &Path, lines: &[Line]) -> Result<Component
 
 /// The components of a package file, in its order (Cabal manual, "package descriptions"). `path` is that of the file. The
 /// refusal is ComponentSyntax with the first line that is refused: of a field or a head, or 1 where the package has no name.
-#[tactic(auto, using(crate::proofs::Refused::none_refused))]
+#[tactic(auto, using(crate::proofs::RefusedLemmas::none_refused))]
 pub fn read_component(
     alloc: Global,
     path: &Path,

@@ -1,5 +1,5 @@
-pub mod Apart
-pub mod Names
-pub mod Mixed
-pub mod Whole
-pub mod Tested
+pub mod ApartLemmas
+pub mod NameLemmas
+pub mod MixedLemmas
+pub mod WholeLemmas
+pub mod TestedLemmas

@@ -30,4 +30,5 @@ are_lawful_entries is_dep (m ∷ ms) = is_lawful_entry is_dep m && are_lawful_en
 -- a library has no main file, and an executable no signatures, exposed modules or re-exports
 abbrev pub has_form : Component → Bool
 has_form c =
-    if c.executable then (length c.signatures == 0) && ((length c.exposed == 0) && (length c.reexports == 0)) else length c.main_is == 0
+    if c.executable then (length c.signatures == 0) &&
+    ((length c.exposed == 0) && (length c.reexports == 0)) else length c.main_is == 0

@@ -1,2 +1,2 @@
-pub mod Blocked
+pub mod BlockedLemmas
 pub mod HeadLemmas

@@ -1,5 +1,6 @@
 -- Paths of package files and of their folders.
-use Rattle.std.specs.Prelude.{ℕ, ◌-◌, Bool, false, Option, Some, None, List, [], ◌∷◌, ◌++◌, length, take, drop, codes, ◌==◌, ◌||◌, if◌then◌else◌}
+use Rattle.std.specs.Prelude.{ℕ, ◌-◌, Bool, false, Option, Some, None, List, [], ◌∷◌, ◌++◌, length, take, drop, codes}
+use Rattle.std.specs.Prelude.{◌==◌, ◌||◌, if◌then◌else◌}
 use Rattle.std.specs.List.{list_any, slice_split, starts_with, ends_with}
 use Rattle.std.specs.Cmp.Lexicographic.{pointwise}
 use Rattle.cabal_text.specs.Fields.{items_of}
@@ -38,7 +39,8 @@ is_foreign item = list_any is_glob_char item || climbs item || is_address item
 unfoldable pub is_here : List ℕ → Bool
 is_here path = (length path == 0) || pointwise ◌==◌ path (codes ".")
 
--- the item names no package file: it is foreign, or begins with `/` once a leading `./` is dropped, or is the folder itself
+-- the item names no package file: it is foreign, or begins with `/` once a leading `./` is dropped, or is the folder
+-- itself
 unfoldable pub is_refused_item : List ℕ → Bool
 is_refused_item item = is_foreign item || starts_with ◌==◌ (without_front item) (codes "/") || is_here (trimmed item)
 
@@ -49,7 +51,8 @@ behind_slash behind (b ∷ bs) = if b == 47 then behind_slash bs bs else behind_
 
 -- the package file at a path, which may be that of its folder: `d/x` means `d/x/x.cabal`
 unfoldable pub package_file : List ℕ → List ℕ
-package_file path = if ends_with ◌==◌ path (codes ".cabal") then path else path ++ codes "/" ++ behind_slash path path ++ codes ".cabal"
+package_file path = if ends_with ◌==◌ path (codes ".cabal") then path else path ++ codes "/" ++ behind_slash path path
+    ++ codes ".cabal"
 
 -- a folder of sources: `.` where nothing is left of it
 unfoldable pub folder_at : List ℕ → List ℕ

@@ -21,7 +21,8 @@ bad_name f = if is_name_value (tokens_of f.value) then [] else f.line ∷ []
 -- line 1 where there is no field of the name; a bad value; each such field after the first
 abbrev pub refused_names : List Field → List ℕ
 refused_names [] = 1 ∷ []
-refused_names (f ∷ fs) = if is_word f.name (codes "name") then bad_name f ++ lines_named (codes "name") fs else refused_names fs
+refused_names (f ∷ fs) = if is_word f.name (codes "name") then bad_name f
+    ++ lines_named (codes "name") fs else refused_names fs
 
 -- the first word, or nothing
 abbrev pub leading : List (List ℕ) → List ℕ

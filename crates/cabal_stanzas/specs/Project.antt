@@ -1,5 +1,6 @@
 -- The package files that a project file names, and the lines of it that are refused.
-use Rattle.std.specs.Prelude.{◌≡◌, ℕ, Bool, Option, Some, None, List, [], ◌∷◌, ◌++◌, map, codes, nat_lt, ◌||◌, if◌then◌else◌}
+use Rattle.std.specs.Prelude.{◌≡◌, ℕ, Bool, Option, Some, None, List, [], ◌∷◌, ◌++◌, map, codes, nat_lt, ◌||◌}
+use Rattle.std.specs.Prelude.{if◌then◌else◌}
 use Rattle.std.specs.List.{filter, flat_map, list_any}
 use Rattle.cabal_text.specs.declared.lines.Line.{Line}
 use Rattle.cabal_stanzas.specs.declared.project.ProjectError.{ProjectError}
@@ -34,7 +35,8 @@ field_files field deeper =
 abbrev pub field_refused : ℕ → List ℕ × List ℕ → List Line → List ℕ
 field_refused number field deeper =
     if is_word field.0 (codes "import") then number ∷ [] else
-    (if is_word field.0 (codes "packages") then refused_at number field.1 ++ flat_map (λ l. refused_at l.number l.text) deeper else [])
+    (if is_word field.0 (codes "packages") then refused_at number field.1
+    ++ flat_map (λ l. refused_at l.number l.text) deeper else [])
 
 -- the lines of a stanza that are refused
 abbrev pub stanza_refused : Line → List Line → List ℕ

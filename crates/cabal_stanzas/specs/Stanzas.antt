@@ -1,5 +1,6 @@
 -- The fields and stanzas of a package file.
-use Rattle.std.specs.Prelude.{ℕ, Bool, Option, Some, None, List, [], ◌∷◌, ◌++◌, drop, map, codes, nat_lt, ◌==◌, ◌||◌, ◌&&◌, not, is_some, if◌then◌else◌}
+use Rattle.std.specs.Prelude.{ℕ, Bool, Option, Some, None, List, [], ◌∷◌, ◌++◌, drop, map, codes, nat_lt, ◌==◌, ◌||◌}
+use Rattle.std.specs.Prelude.{◌&&◌, not, is_some, if◌then◌else◌}
 use Rattle.std.specs.List.{filter, filter_map, flat_map}
 use Rattle.cabal_text.specs.declared.lines.Line.{Line}
 use Rattle.cabal_stanzas.specs.declared.stanzas.Field.{Field}

@@ -1,5 +1,6 @@
 -- Values of the fields of components (Cabal manual, "build-depends", "main-is").
-use Rattle.std.specs.Prelude.{ℕ, Bool, true, false, Option, Some, None, List, [], ◌∷◌, length, take, drop, codes, nat_lt, ◌==◌, ◌||◌, ◌&&◌, not, if◌then◌else◌}
+use Rattle.std.specs.Prelude.{ℕ, Bool, true, false, Option, Some, None, List, [], ◌∷◌, length, take, drop, codes}
+use Rattle.std.specs.Prelude.{nat_lt, ◌==◌, ◌||◌, ◌&&◌, not, if◌then◌else◌}
 use Rattle.std.specs.List.{prefix_len, list_all, ends_with}
 use Rattle.cabal_text.specs.declared.tokens.Brackets.TheVariants.{Curly}
 use Rattle.cabal_text.specs.Tokens.{is_blank, tokens_of, items_at, without_comma, each_read}

@@ -43,7 +43,7 @@ fn bad_name(alloc: Global, field: &Field) -> Result<Option<u64>, AllocError>
 }
 
 /// The first line that is refused for the package's name.
-#[tactic(auto, using(cabal_text::proofs::Sooner::least_append))]
+#[tactic(auto, using(cabal_text::proofs::SoonerLemmas::least_append))]
 pub fn name_line(alloc: Global, fields: &[Field]) -> Result<Option<u64>, AllocError>
     ensures { IfOk result (λ line. line ≡ least_of (refused_names fields.now)) }
 {

@@ -108,7 +108,7 @@ fn again_line(name: &[u8], fields: &[Field]) -> Option<u64>
     None
 }
 
-#[tactic(auto, using(cabal_text::proofs::Sooner::least_append))]
+#[tactic(auto, using(cabal_text::proofs::SoonerLemmas::least_append))]
 fn shared_again_line(fields: &[Field]) -> Option<u64>
     ensures { result ≡ least_of (shared_again fields.now) }
 {
@@ -123,7 +123,7 @@ fn shared_again_line(fields: &[Field]) -> Option<u64>
     sooner(one, other)
 }
 
-#[tactic(auto, using(cabal_text::proofs::Sooner::least_append))]
+#[tactic(auto, using(cabal_text::proofs::SoonerLemmas::least_append))]
 fn library_again_line(fields: &[Field]) -> Option<u64>
     ensures { result ≡ least_of (library_again fields.now) }
 {
@@ -145,7 +145,7 @@ fn kind_again_line(executable: bool, fields: &[Field]) -> Option<u64>
 }
 
 /// The first field that is given again, of those that a component reads.
-#[tactic(auto, using(cabal_text::proofs::Sooner::least_append))]
+#[tactic(auto, using(cabal_text::proofs::SoonerLemmas::least_append))]
 pub fn repeated_line(executable: bool, fields: &[Field]) -> Option<u64>
     ensures { result ≡ least_of (repeated executable fields.now) }
 {

@@ -1,4 +1,4 @@
-pub mod Splits
-pub mod Listed
-pub mod Sooner
-pub mod Wordy
+pub mod SplitLemmas
+pub mod ListedLemmas
+pub mod SoonerLemmas
+pub mod WordyLemmas

@@ -1,5 +1,6 @@
 -- Fields, heads and lists.
-use Rattle.std.specs.Prelude.{ℕ, Bool, Option, Some, None, List, [], ◌∷◌, length, take, drop, nat_lt, ◌==◌, not, if◌then◌else◌}
+use Rattle.std.specs.Prelude.{ℕ, Bool, Option, Some, None, List, [], ◌∷◌, length, take, drop, nat_lt, ◌==◌, not}
+use Rattle.std.specs.Prelude.{if◌then◌else◌}
 use Rattle.std.specs.List.{prefix_len, filter, slice_split}
 use Rattle.std.specs.Str.{str_eq_ignore_ascii_case}
 use Rattle.cabal_text.specs.Characters.{is_space, is_field_char, is_gap}
@@ -14,7 +15,8 @@ after_colon name (b ∷ bs) = if b == 58 then Some (name, bs) else None
 unfoldable pub field_of : List ℕ → Option (List ℕ × List ℕ)
 field_of text =
     if nat_lt 0 (prefix_len is_field_char text)
-    then after_colon (take (prefix_len is_field_char text) text) (unindented (drop (prefix_len is_field_char text) text))
+    then after_colon (take (prefix_len is_field_char text) text)
+    (unindented (drop (prefix_len is_field_char text) text))
     else None
 
 -- the word up to the first space

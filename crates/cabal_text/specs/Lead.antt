@@ -9,4 +9,5 @@ IsUnblank (b ∷ bs) = is_blank b ≡ false
 
 abbrev pub item_len : Brackets → ℕ → List (List ℕ) → ℕ
 item_len brackets depth [] = 0
-item_len brackets depth (token ∷ tokens) = if ends_item depth token then 0 else item_len brackets (depth_after brackets depth token) tokens + 1
+item_len brackets depth (token ∷ tokens) = if ends_item depth token then 0 else item_len brackets
+    (depth_after brackets depth token) tokens + 1

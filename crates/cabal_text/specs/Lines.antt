@@ -24,7 +24,8 @@ line_at number text = record { number = number; indent = indent_of text; text = 
 -- the lines that aren't dropped, where the first has this number
 abbrev pub kept_from : ℕ → List (List ℕ) → List Line
 kept_from n [] = []
-kept_from n (text ∷ texts) = if is_dropped text then kept_from (n + 1) texts else line_at n text ∷ kept_from (n + 1) texts
+kept_from n (text ∷ texts) = if is_dropped text then kept_from (n + 1) texts else line_at n text ∷ kept_from
+    (n + 1) texts
 
 -- the lines of a file that aren't dropped
 abbrev pub kept_lines : List ℕ → List Line
@@ -42,4 +43,7 @@ deeper_than indent ls = take_while (λ l. nat_lt indent l.indent) ls
 -- each line of the indent, with the deeper ones after it
 abbrev pub blocks : ℕ → List Line → List Block
 blocks indent [] = []
-blocks indent (l ∷ ls) = if l.indent == indent then record { line = l; deeper = deeper_than indent ls } ∷ blocks indent ls else blocks indent ls
+blocks indent (l ∷ ls) = if l.indent == indent then record {
+  line = l;
+  deeper = deeper_than indent ls;
+} ∷ blocks indent ls else blocks indent ls

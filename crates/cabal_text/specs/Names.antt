@@ -1,5 +1,6 @@
 -- Names of dependencies, and lists of names of modules.
-use Rattle.std.specs.Prelude.{ℕ, ◌+◌, Bool, Option, Some, None, List, [], ◌∷◌, length, take, drop, codes, ◌==◌, ◌||◌, ◌&&◌, if◌then◌else◌}
+use Rattle.std.specs.Prelude.{ℕ, ◌+◌, Bool, Option, Some, None, List, [], ◌∷◌, length, take, drop, codes, ◌==◌, ◌||◌}
+use Rattle.std.specs.Prelude.{◌&&◌, if◌then◌else◌}
 use Rattle.bp_base.specs.Names.{colon_place, is_module_name, is_package_name}
 use Rattle.bp_base.specs.declared.linking.Rename.{Rename}
 use Rattle.cabal_text.specs.declared.tokens.Brackets.TheVariants.{Round}

@@ -1,5 +1,6 @@
 -- The words and marks of a value, and the items of its lists.
-use Rattle.std.specs.Prelude.{ℕ, ◌+◌, ◌-◌, Bool, false, Option, Some, None, List, [], ◌∷◌, codes, ◌==◌, ◌||◌, ◌&&◌, not, if◌then◌else◌}
+use Rattle.std.specs.Prelude.{ℕ, ◌+◌, ◌-◌, Bool, false, Option, Some, None, List, [], ◌∷◌, codes, ◌==◌, ◌||◌, ◌&&◌, not}
+use Rattle.std.specs.Prelude.{if◌then◌else◌}
 use Rattle.std.specs.List.{onto_first}
 use Rattle.std.specs.Cmp.Lexicographic.{pointwise}
 use Rattle.cabal_text.specs.declared.tokens.Brackets.{Brackets}
@@ -45,7 +46,8 @@ closing Curly = codes "}"
 -- how many brackets are open after a token
 unfoldable pub depth_after : Brackets → ℕ → List ℕ → ℕ
 depth_after brackets depth token =
-    if is_text token (opening brackets) then depth + 1 else (if is_text token (closing brackets) then depth - 1 else depth)
+    if is_text token (opening brackets) then depth + 1 else
+    (if is_text token (closing brackets) then depth - 1 else depth)
 
 -- the token is a comma outside brackets
 unfoldable pub ends_item : ℕ → List ℕ → Bool
@@ -55,7 +57,8 @@ ends_item depth token = (depth == 0) && is_text token (codes ",")
 abbrev pub items_at : Brackets → ℕ → List (List ℕ) → List (List (List ℕ))
 items_at brackets depth [] = []
 items_at brackets depth (token ∷ tokens) =
-    if ends_item depth token then [] ∷ items_at brackets 0 tokens else onto_first token (items_at brackets (depth_after brackets depth token) tokens)
+    if ends_item depth token then [] ∷ items_at brackets 0 tokens else onto_first token
+    (items_at brackets (depth_after brackets depth token) tokens)
 
 -- the list without a comma before it
 abbrev pub without_comma : List (List ℕ) → List (List ℕ)

@@ -16,7 +16,8 @@ pub kept-more : (outer : List Item) (contexts : List Context) (last : Context) �
 kept-more outer [] last kept is = (is, tt)
 kept-more outer (context ∷ contexts) last kept is = (kept.0, kept-more (context.item ∷ outer) contexts last kept.1 is)
 
-pub kept-before : (outer : List Item) (contexts : List Context) (last : Context) → Kept outer (contexts ++ last ∷ []) → Kept outer contexts
+pub kept-before : (outer : List Item) (contexts : List Context) (last : Context) → Kept outer (contexts ++ last ∷ [])
+    → Kept outer contexts
 kept-before outer [] last kept = tt
 kept-before outer (context ∷ contexts) last kept = (kept.0, kept-before (context.item ∷ outer) contexts last kept.1)
 
@@ -25,7 +26,8 @@ pub kept-last : (outer : List Item) (contexts : List Context) (last : Context) �
 kept-last outer [] last kept = kept.0
 kept-last outer (context ∷ contexts) last kept = kept-last (context.item ∷ outer) contexts last kept.1
 
-module _ (contexts before : List Context) (last : Context) (now : List Item) (split : contexts ≡ before ++ last ∷ []) where
+module _ (contexts before : List Context) (last : Context) (now : List Item)
+    (split : contexts ≡ before ++ last ∷ []) where
   -- what is open, by the last context
   pub last_item : opened [] contexts ≡ now → now ≡ last.item ∷ opened [] before
   last_item view = sym view ∙ ap (opened []) split ∙ opened-last [] before last
@@ -36,9 +38,11 @@ module _ (contexts before : List Context) (last : Context) (now : List Item) (sp
   pub rest_kept : Kept [] contexts → Kept [] before
   rest_kept kept = kept-before [] before last (subst (Kept []) split kept)
 
-module _ (contexts grown : List Context) (last : Context) (now : List Item) (more : grown ≡ contexts ++ last ∷ []) (view : opened [] contexts ≡ now) where
+module _ (contexts grown : List Context) (last : Context) (now : List Item) (more : grown ≡ contexts ++ last ∷ [])
+    (view : opened [] contexts ≡ now) where
   pub more_kept : Kept [] contexts → last.reach ≡ reach_of (last.item ∷ now) → Kept [] grown
-  more_kept kept is = subst (Kept []) (sym more) (kept-more [] contexts last kept (is ∙ ap (λ outer. reach_of (last.item ∷ outer)) (sym view)))
+  more_kept kept is = subst (Kept []) (sym more) (kept-more [] contexts last kept (is
+      ∙ ap (λ outer. reach_of (last.item ∷ outer)) (sym view)))
 
   pub more_items : opened [] grown ≡ last.item ∷ now
   more_items = ap (opened []) more ∙ opened-last [] contexts last ∙ ap (λ outer. last.item ∷ outer) view

@@ -1,6 +1,6 @@
 mod ContextLemmas
-mod Advancing
-mod Steps
-mod Standing
-mod Staying
-mod Matching
+mod AdvancingLemmas
+mod StepLemmas
+mod StandingLemmas
+mod StayingLemmas
+mod MatchingLemmas

@@ -21,20 +21,25 @@ abbrev pub next_offset : ℕ → List Token → ℕ
 next_offset length [] = length
 next_offset length (token ∷ tokens) = token.offset
 
--- An answer is the tokens of the source in their order, with made tokens between them, each at the offset of what follows.
+-- An answer is the tokens of the source in their order, with made tokens between them, each at the offset of what
+-- follows.
 pub data LaidOut (length : ℕ) : List Token → List Token → Type 0 where
   ended : LaidOut length [] []
-  given : (token : Token) (tokens answer : List Token) → LaidOut length tokens answer → LaidOut length (token ∷ tokens) (token ∷ answer)
-  made : (token : Token) (tokens answer : List Token) → IsMade (next_offset length tokens) token → LaidOut length tokens answer
+  given : (token : Token) (tokens answer : List Token) → LaidOut length tokens answer
+      → LaidOut length (token ∷ tokens) (token ∷ answer)
+  made : (token : Token) (tokens answer : List Token) → IsMade (next_offset length tokens) token
+      → LaidOut length tokens answer
       → LaidOut length tokens (token ∷ answer)
 
 abbrev pub GivenStand : Type 0
-GivenStand = (tokens answer : List Token) (length : ℕ) → layout_of tokens length ≡ Ok answer → LaidOut length tokens answer
+GivenStand = (tokens answer : List Token) (length : ℕ) → layout_of tokens length ≡ Ok answer
+    → LaidOut length tokens answer
 
 -- whether a `{` follows wherever a block would be due
 abbrev pub none_due : Bool → List Token → Bool
 none_due due [] = not due
-none_due due (token ∷ tokens) = (if due then is_open_brace (role_of token) else true) && none_due (makes_due (role_of token)) tokens
+none_due due (token ∷ tokens) = (if due then is_open_brace (role_of token) else true) && none_due
+    (makes_due (role_of token)) tokens
 
 -- Tokens whose every block has braces come back unchanged.
 abbrev pub BracesStay : Type 0

@@ -1,5 +1,6 @@
 -- Layout: a function of the tokens of a source and of its length.
-use Rattle.std.specs.Prelude.{ℕ, ◌+◌, Bool, true, false, List, [], ◌∷◌, ◌++◌, map, Option, Some, None, Result, Ok, Err, if◌then◌else◌}
+use Rattle.std.specs.Prelude.{ℕ, ◌+◌, Bool, true, false, List, [], ◌∷◌, ◌++◌, map, Option, Some, None, Result, Ok, Err}
+use Rattle.std.specs.Prelude.{if◌then◌else◌}
 use Rattle.hs_tokens.specs.declared.token.Token.{Token}
 use Rattle.haskell_layout.specs.declared.role.Role.{Role}
 use Rattle.haskell_layout.specs.declared.role.Made.{Made}
@@ -11,7 +12,8 @@ use Rattle.haskell_layout.specs.Role.{role_of, makes_due, begins_item, is_header
 use Rattle.haskell_layout.specs.Stack.{finds}
 use Rattle.haskell_layout.specs.Rules.{Moved, behind, closed, before_token, token_met, unmatched}
 
--- What stands between two tokens: what is open, whether a block is due, and whether the token emitted last is `{` or `;`.
+-- What stands between two tokens: what is open, whether a block is due, and whether the token emitted last is `{` or
+-- `;`.
 pub record State : Type 0 where
   pub stack : List Item
   pub due : Bool

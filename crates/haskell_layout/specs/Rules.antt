@@ -1,4 +1,5 @@
--- The rules by which tokens open and close blocks and marks (Haskell 2010 Report, section 10.3, with closing tokens in place of
+-- The rules by which tokens open and close blocks and marks (Haskell 2010 Report, section 10.3, with closing tokens in
+-- place of
 -- its rule on parse errors).
 use Rattle.std.specs.Prelude.{ℕ, Bool, false, not, ◌&&◌, ◌==◌, nat_lt, List, [], ◌∷◌, ◌++◌, if◌then◌else◌}
 use Rattle.haskell_layout.specs.declared.role.Role.{Role}
@@ -34,7 +35,8 @@ end_of _ = []
 -- "to close down": items are popped, with a `}` for each implicit block among them
 abbrev pub closed : Until → List Item → Moved
 closed until [] = nothing_made []
-closed until (item ∷ outer) = if reached until (item ∷ outer) then nothing_made (item ∷ outer) else behind (end_of item) (closed until outer)
+closed until (item ∷ outer) = if reached until (item ∷ outer) then nothing_made (item ∷ outer) else behind (end_of item)
+    (closed until outer)
 
 abbrev pub popped : List Item → List Item
 popped [] = []
@@ -62,13 +64,16 @@ item_ended stack = closed u.Block stack
 -- A token in the innermost block's column begins an item of it, where the block is implicit.
 abbrev pub item_begun : ℕ → List Item → Moved
 item_begun column stack =
-    if is_implicit stack && column_of stack == column then behind (m.Semicolon ∷ []) (item_ended stack) else nothing_made stack
+    if is_implicit stack && column_of stack == column then behind (m.Semicolon ∷ [])
+    (item_ended stack) else nothing_made stack
 
 -- A token that begins a line closes the blocks to the right of its column.
 abbrev pub line_begun : ℕ → List Item → Moved
-line_begun column stack = let moved = closed (u.Column column) stack in behind moved.made (item_begun column moved.stack)
+line_begun column stack = let moved = closed (u.Column column) stack in
+    behind moved.made (item_begun column moved.stack)
 
--- A block that is due begins at a column to the right of the innermost block's. Else it is empty, and the token begins a line.
+-- A block that is due begins at a column to the right of the innermost block's. Else it is empty, and the token begins
+-- a line.
 abbrev pub block_begun : ℕ → List Item → Moved
 block_begun column stack =
     if nat_lt (column_of stack) column then record { made = m.Open ∷ []; stack = i.Block column ∷ stack }
@@ -92,7 +97,10 @@ equals_met stack = stack
 
 -- A `where` closes the implicit block on top, where it would begin an item of it.
 abbrev pub where_met : Bool → List Item → Moved
-where_met fresh (i.Block column ∷ outer) = if fresh then record { made = m.Close ∷ []; stack = outer } else nothing_made (i.Block column ∷ outer)
+where_met fresh (i.Block column ∷ outer) = if fresh then record {
+  made = m.Close ∷ [];
+  stack = outer;
+} else nothing_made (i.Block column ∷ outer)
 where_met fresh stack = nothing_made stack
 
 -- What a token does; `fresh` tells whether the token emitted last is `{` or `;`.

@@ -52,7 +52,8 @@ bars _ _ = false
 -- whether a look down finds what is sought
 abbrev pub finds : Sought → List Item → Bool
 finds sought [] = false
-finds sought (item ∷ outer) = if seeks sought item then true else (if bars sought item then false else finds sought outer)
+finds sought (item ∷ outer) = if seeks sought item then true else
+    (if bars sought item then false else finds sought outer)
 
 -- whether the stack is closed so far
 abbrev pub reached : Until → List Item → Bool

@@ -1,5 +1,5 @@
-use haskell_layout::*;
 use bp_base::Bytes;
+use haskell_layout::*;
 use hs_tokens::{Token, TokenKind, Tokens};
 use sqlite_items::Items;
 use std::alloc::{AllocError, Global};

@@ -5,7 +5,7 @@ ghost use Rattle.hs_tokens.specs.Terminals.{terminal_of};
 ghost use Rattle.hs_tokens.specs.declared.terminal.Terminal.{Terminal};
 ghost use Rattle.hs_trees.specs.Kinds.{kind_form, kind_sort};
 ghost use Rattle.hs_trees.specs.declared.types.KindTree.{KindTree};
-ghost use Rattle.hs_trees.proofs.KindUnique.{one_kind};
+ghost use Rattle.hs_trees.proofs.KindUniqueLemmas.{one_kind};
 ghost use Rattle.hs_readers.specs.Answers.{Answers};
 
 use crate::reading::{Readable, parse};

@@ -8,7 +8,7 @@ ghost use Rattle.hs_tokens.specs.declared.terminal.Terminal.TheVariants.{LeftArr
 ghost use Rattle.hs_trees.specs.Hits.{hits, follows_guard};
 ghost use Rattle.hs_trees.specs.Patterns.{pat_form, pat_sort, spelling_pat};
 ghost use Rattle.hs_trees.specs.declared.patterns.PatTree.{PatTree};
-ghost use Rattle.hs_trees.proofs.PatternUnique.{one_pattern};
+ghost use Rattle.hs_trees.proofs.PatternUniqueLemmas.{one_pattern};
 ghost use Rattle.hs_readers.specs.Answers.{Answers};
 
 use crate::reading::{Readable, parse};

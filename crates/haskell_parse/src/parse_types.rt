@@ -5,7 +5,7 @@ ghost use Rattle.hs_tokens.specs.Terminals.{terminal_of};
 ghost use Rattle.hs_tokens.specs.declared.terminal.Terminal.{Terminal};
 ghost use Rattle.hs_trees.specs.Types.{type_form, type_sort};
 ghost use Rattle.hs_trees.specs.declared.types.TypeTree.{TypeTree};
-ghost use Rattle.hs_trees.proofs.TypeUnique.{one_type};
+ghost use Rattle.hs_trees.proofs.TypeUniqueLemmas.{one_type};
 ghost use Rattle.hs_readers.specs.Answers.{Answers};
 
 use crate::reading::{Readable, parse};

@@ -19,7 +19,7 @@ use Rattle.hole_unify.specs.Table.{class_at, is_same, is_module}
 use Rattle.hole_unify.specs.Reach.{least_from}
 
 -- what is built for a class
-pub record Entry : Type 0 where
+pub record ClassBuilt : Type 0 where
   pub class : ℕ
   pub ident : Ident
 
@@ -92,16 +92,16 @@ term_ready nodes built k (Hole n) = hole_ready nodes k
 term_ready nodes built k (Module' s (more_of-Unit u end_of-Unit) m) =
     module_of u m (fills_built nodes built (out-Unit u).fills)
 
-abbrev pub entry_of : ℕ → Option Ident → Option Ident → Option Entry
+abbrev pub entry_of : ℕ → Option Ident → Option Ident → Option ClassBuilt
 entry_of k (Some t) made = None
 entry_of k None None = None
 entry_of k None (Some t) = Some (record { class = k; ident = t })
 
-abbrev pub node_ready : List Node → List (Option Ident) → Node → Option Entry
+abbrev pub node_ready : List Node → List (Option Ident) → Node → Option ClassBuilt
 node_ready nodes built x = entry_of x.class (built_at x.class built) (term_ready nodes built x.class x.ident)
 
 -- the first class that is not built and can be
-abbrev pub first_ready : List Node → List (Option Ident) → List Node → Option Entry
+abbrev pub first_ready : List Node → List (Option Ident) → List Node → Option ClassBuilt
 first_ready nodes built [] = None
 first_ready nodes built (x ∷ rest) = option_or (node_ready nodes built x) (first_ready nodes built rest)
 

@@ -148,6 +148,6 @@ pub record IsSettled (es : List Equation) (nodes : List Node) : Type 0 where
   pub closed : IsEven nodes
 
 -- closing ends at a closed table, or at two different heads of one class
-abbrev pub Ends : List Equation → List Node → Option (Head × Head) → Type 0
-Ends es nodes None = IsSettled es nodes
-Ends es nodes (Some heads) = HasHeads es heads.0 heads.1
+abbrev pub ClosesTo : List Equation → List Node → Option (Head × Head) → Type 0
+ClosesTo es nodes None = IsSettled es nodes
+ClosesTo es nodes (Some heads) = HasHeads es heads.0 heads.1

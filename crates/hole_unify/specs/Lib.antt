@@ -7,7 +7,7 @@ pub mod Tables
 pub mod Close
 pub mod Reach
 pub mod Build
-pub mod Stands
+pub mod IsFaithful
 pub mod Solve
 pub mod Numbers
 pub mod Stages

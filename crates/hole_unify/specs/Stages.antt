@@ -15,8 +15,8 @@ use Rattle.hole_unify.specs.declared.build.Ready.TheVariants.{Hole, Module}
 use Rattle.hole_unify.specs.declared.equation.Equation.{Equation}
 use Rattle.hole_unify.specs.Table.{Node, nodes_of}
 use Rattle.hole_unify.specs.Tables.{IsTable}
-use Rattle.hole_unify.specs.Stands.{Stands}
-use Rattle.hole_unify.specs.Build.{Entry, built_of, AreBuiltBelow, term_hole, put}
+use Rattle.hole_unify.specs.IsFaithful.{IsFaithful}
+use Rattle.hole_unify.specs.Build.{ClassBuilt, built_of, AreBuiltBelow, term_hole, put}
 
 -- the node of a number
 abbrev pub node_at : List Ident → List ℕ → ℕ → Node
@@ -55,7 +55,7 @@ ready_ident table (Hole n) = ident_of table n
 ready_ident table (Module c fs m) = module_of table c fs m
 
 -- the entry of a class
-abbrev pub ready_entry : List Ident → ℕ → Ready → Entry
+abbrev pub ready_entry : List Ident → ℕ → Ready → ClassBuilt
 ready_entry table k r = record { class = k; ident = ready_ident table r }
 
 abbrev pub IsReadyBelow : ℕ → Ready → Type 0
@@ -81,8 +81,8 @@ pub record Follows (classes : List ℕ) (table : List Ident) (built : List (Opti
     (after : List (Option ℕ)) : Type 0 where
   pub grows : Grows table later
   pub stands : (es : List Equation) → IsTable es (nodes_of table classes)
-      → Stands es (nodes_of table classes) (built_of table built)
-      → Stands es (nodes_of table classes) (built_of later after)
+      → IsFaithful es (nodes_of table classes) (built_of table built)
+      → IsFaithful es (nodes_of table classes) (built_of later after)
 
 -- where no class was built more, this is so
 abbrev pub Steps : List ℕ → List Ident → List (Option ℕ) → List Ident → List (Option ℕ) → Type 0 → Bool → Type 0

@@ -11,7 +11,7 @@ ghost use Rattle.hole_unify.specs.declared.build.Ready.{Ready};
 ghost use Rattle.hole_unify.specs.declared.build.Ready.TheVariants.{Hole};
 ghost use Rattle.hole_unify.specs.Table.{nodes_of};
 ghost use Rattle.hole_unify.specs.Tables.{IsTable};
-ghost use Rattle.hole_unify.specs.Stands.{Stands};
+ghost use Rattle.hole_unify.specs.IsFaithful.{IsFaithful};
 ghost use Rattle.hole_unify.specs.Reach.{lesser};
 ghost use Rattle.hole_unify.specs.Build.{number_built, built_of, AreBuiltBelow, has_module, least_hole, hole_of, hole_ready, term_ready, node_ready, first_ready};
 ghost use Rattle.hole_unify.specs.Stages.{node_at, hole_at, built_for, made_of, ready_entry, numbers_built, ready_ident, IsReadyBelow, IsStage, Follows, Steps};
@@ -401,7 +401,7 @@ pub fn build(
     requires classes { (k : ℕ) → Among k classes.now → k < length classes.now }
     ensures grows { IfOk result (λ built. Grows table.old table.new) }
     ensures below { IfOk result (λ built. AreBuiltBelow (length table.new) built.items) }
-    ensures stands { IfOk result (λ built. (es : List Equation) → IsTable es (nodes_of table.old classes.now) → Stands es (nodes_of table.old classes.now) (built_of table.new built.items)) }
+    ensures stands { IfOk result (λ built. (es : List Equation) → IsTable es (nodes_of table.old classes.now) → IsFaithful es (nodes_of table.old classes.now) (built_of table.new built.items)) }
     ensures ends { IfOk result (λ built. first_ready (nodes_of table.old classes.now) (built_of table.new built.items) (nodes_of table.old classes.now) ≡ None) }
 {
     let mut built = none_built(alloc, table.len())?;

@@ -6,7 +6,7 @@ ghost use Rattle.hole_unify.specs.declared.equation.Equation.{Equation};
 ghost use Rattle.hole_unify.specs.Causes.{IsLawful};
 ghost use Rattle.hole_unify.specs.Table.{HasTerms, class_at, nodes_of, moved, upto};
 ghost use Rattle.hole_unify.specs.Numbers.{number_at};
-ghost use Rattle.hole_unify.specs.Close.{pairs_of, stated_pairs, ArePairsBelow, Ends, fill_numbers, fills_numbers, nodes_numbers, nodes_heads, module_at, modules_pairs, modules_heads, classes_pairs, classes_heads, classes_moved};
+ghost use Rattle.hole_unify.specs.Close.{pairs_of, stated_pairs, ArePairsBelow, ClosesTo, fill_numbers, fills_numbers, nodes_numbers, nodes_heads, module_at, modules_pairs, modules_heads, classes_pairs, classes_heads, classes_moved};
 
 use crate::classes::join;
 use crate::equation::Head;
@@ -221,7 +221,7 @@ pub fn close(
     requires classes { classes.old ≡ upto (length table.now) }
     requires pairs { ArePairsBelow (length table.now) pairs.items }
     ensures length { length classes.new ≡ length classes.old }
-    ensures ends { IfOk result (λ r. (es : List Equation) → IsLawful es → HasTerms es table.now → pairs_of table.now pairs.items ≡ stated_pairs es → Ends es (nodes_of table.now classes.new) r) }
+    ensures ends { IfOk result (λ r. (es : List Equation) → IsLawful es → HasTerms es table.now → pairs_of table.now pairs.items ≡ stated_pairs es → ClosesTo es (nodes_of table.now classes.new) r) }
 {
     let mut pending = pairs;
     'steps: while let Some(pair) = pending.pop() {

@@ -12,7 +12,7 @@ use std::alloc::{AllocError, Global};
 
 /// Puts the units of an identity at the end of the list.
 #[cycle(list)]
-#[tactic(auto, using(crate::proofs::Lawfulness::unit_equations))]
+#[tactic(auto, using(crate::proofs::LawfulnessLemmas::unit_equations))]
 fn list_ident(alloc: Global, ident: &Ident, units: &mut Vec<Unit>) -> Result<(), AllocError>
     ensures { OnOk result (units.new.items ≡ units.old.items ++ units_of ident.now) }
 {

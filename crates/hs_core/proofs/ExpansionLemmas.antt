@@ -1,12 +1,14 @@
 -- Expansion: when there is one, that there is one alone, and that no synonym is left.
-use Rattle.std.proofs.Common.{◌≡◌, refl, sym, ap, ap₂, ◌∙◌, subst, inl, inr, ℕ, zero, suc, ◌+◌, ◌≤◌, ◌<◌, arith, Bool, true, false, true≢false, List, [], ◌∷◌, ◌++◌}
+use Rattle.std.proofs.Common.{◌≡◌, refl, sym, ap, ap₂, ◌∙◌, subst, inl, inr, ℕ, zero, suc, ◌+◌, ◌≤◌, ◌<◌, arith, Bool}
+use Rattle.std.proofs.Common.{true, false, true≢false, List, [], ◌∷◌, ◌++◌}
 use Rattle.std.proofs.lemmas.Option.{none-some}
 use Rattle.std.specs.Prelude.{◌⊎◌, Option, Some, None, IsSome, is_some, unwrap_or}
 use Rattle.bp_base.specs.Lists.{Among}
 use Rattle.bp_base.specs.declared.ty.OrigName.{OrigName}
 use Rattle.type_terms.specs.Terms.{var, con, app, applied}
 use Rattle.hs_core.specs.Types.{TypeTerm, applied_to, listed, count}
-use Rattle.hs_core.specs.Expansion.{Synonym, Synonyms, Expands, ExpandEach, IsFullyApplied, Mentions, LeadsTo, IsMet, IsExpandable, ExpansionExists, ExpansionIsOne}
+use Rattle.hs_core.specs.Expansion.{Synonym, Synonyms, Expands, ExpandEach, IsFullyApplied, Mentions, LeadsTo, IsMet}
+use Rattle.hs_core.specs.Expansion.{IsExpandable, ExpansionExists, ExpansionIsOne}
 use Rattle.hs_core.specs.Expansion.Expands.{variable, name, application, body_for}
 use Rattle.hs_core.specs.Expansion.ExpandEach.{none, each}
 use Rattle.hs_core.specs.Expansion.LeadsTo.{at_once, through}
@@ -311,7 +313,8 @@ mutual
       raised S r (height S a b y) (suc (height S f g x + height S a b y)) (Prim.omega arith) (met_body S a b y m r h q)
   met_body S _ _ (body_for n s args us t v q' c p x y) m r h q =
       elim (applied_any n m args (con n) (subst (λ z. Mentions z m) p h)) [
-        | inl k ↦ subst (λ z. Lower S z (suc (heights S args us x + height S s.body v y))) (same_synonym S n m s r k q' q)
+        | inl k ↦ subst (λ z. Lower S z (suc (heights S args us x + height S s.body v y)))
+            (same_synonym S n m s r k q' q)
             (record { to = v; expands = y; lower = Prim.omega arith })
         | inr k ↦ raised S r (heights S args us x) (suc (heights S args us x + height S s.body v y)) (Prim.omega arith)
             (met_in_each S args us x m r k q)

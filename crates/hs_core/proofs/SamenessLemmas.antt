@@ -4,17 +4,18 @@ use Rattle.std.specs.Prelude.{Decides}
 use Rattle.std.specs.Str.{bytes_eq}
 use Rattle.std.proofs.lemmas.Bool.{and_parts}
 use Rattle.std.proofs.lemmas.Slice.Eq.{bytes_eq-Decides}
-use Rattle.bp_base.proofs.Texts.{texts_same, same_texts}
+use Rattle.bp_base.proofs.TextLemmas.{texts_same, same_texts}
 use Rattle.bp_base.specs.Texts.{Text}
 use Rattle.bp_base.specs.declared.ident.Ident.{Ident}
 use Rattle.bp_base.specs.declared.ident.Ident.TheVariants.{Hole, Module'}
 use Rattle.bp_base.specs.declared.ident.Unit.{Unit as OfUnit, Unit', out-Unit}
-use Rattle.bp_base.specs.declared.ident.Ident.TheBlock.{shown-the_row-Fill-1, end_of-Unit, more_of-Unit, Row_of-Fill, end_of-Fill, more_of-Fill}
+use Rattle.bp_base.specs.declared.ident.Ident.TheBlock.{shown-the_row-Fill-1, end_of-Unit, more_of-Unit, Row_of-Fill}
+use Rattle.bp_base.specs.declared.ident.Ident.TheBlock.{end_of-Fill, more_of-Fill}
 use Rattle.bp_base.specs.declared.ident.Fill.{Fill}
 use Rattle.bp_base.specs.declared.ty.OrigName.{OrigName}
 use Rattle.bp_base.specs.declared.ty.Space.{Space}
 use Rattle.bp_base.specs.declared.ty.Space.TheVariants.{Types, Values}
-use Rattle.bp_base.proofs.Idents.{unit-same}
+use Rattle.bp_base.proofs.IdentLemmas.{unit-same}
 use Rattle.hs_core.specs.Sameness.{same_space, same_identity, same_units, same_filling, same_original}
 use denote.Hole.Carrier.{out, shown}
 use mathlib.Core.Former.{list_count, this, none_left}
@@ -96,4 +97,8 @@ pub original_same : (n m : OrigName) → same_original n m ≡ true → n ≡ m
 original_same n m e =
     let parts = and_parts (bytes_eq n.occ m.occ) (same_space n.space m.space && same_identity n.at m.at) e in
     let rest = and_parts (same_space n.space m.space) (same_identity n.at m.at) parts.1 in
-    λ i. record { at = identity_same n.at m.at rest.1 i; space = space_same n.space m.space rest.0 i; occ = same_texts n.occ m.occ parts.0 i }
+    λ i. record {
+      at = identity_same n.at m.at rest.1 i;
+      space = space_same n.space m.space rest.0 i;
+      occ = same_texts n.occ m.occ parts.0 i;
+    }

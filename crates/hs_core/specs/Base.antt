@@ -1,4 +1,5 @@
--- The interface of the module `Prelude` of the component `base`. This table is this project's own: the names are those of the Haskell
+-- The interface of the module `Prelude` of the component `base`. This table is this project's own: the names are those
+-- of the Haskell
 -- 2010 Report, chapter 9, with types of this project. Types that are written by syntax alone are not exported.
 use Rattle.std.specs.Prelude.{ℕ, zero, suc, false, List, [], ◌∷◌, ◌++◌, map, codes}
 use Rattle.bp_base.specs.Texts.{Text}
@@ -117,7 +118,12 @@ data_type occ params cons = record {
 
 -- a synonym without parameters
 abbrev pub synonym : Text → Ty → Export
-synonym occ body = record { occ = occ; entity = Synonym (record { at = base_prelude; space = Types; occ = occ }) Star 0 body; cons = [] }
+synonym occ body = record {
+  occ = occ;
+  entity = Synonym
+      (record { at = base_prelude; space = Types; occ = occ }) Star 0 body;
+  cons = [];
+}
 
 -- ---- the tables, each in byte order of the name
 

@@ -14,8 +14,10 @@ pub record Synonym : Type 0 where
 abbrev pub Synonyms : Type 0
 Synonyms = OrigName → Option Synonym
 
--- The second type is the first with each synonym, applied to as many types as it has parameters, replaced by its body. Each
--- argument, and the body, is expanded by itself. `type P a = (a, a)`: `[P Int]` expands to `[(Int, Int)]`; `P` alone does not
+-- The second type is the first with each synonym, applied to as many types as it has parameters, replaced by its body.
+-- Each
+-- argument, and the body, is expanded by itself. `type P a = (a, a)`: `[P Int]` expands to `[(Int, Int)]`; `P` alone
+-- does not
 -- expand, wherever it stands.
 mutual
   pub data Expands (S : Synonyms) : TypeTerm → TypeTerm → Type 0 where

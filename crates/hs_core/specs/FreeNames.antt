@@ -1,21 +1,27 @@
--- What declarations bind, which locals they mention, and so how a list of declarations falls into groups (Haskell 2010 Report,
+-- What declarations bind, which locals they mention, and so how a list of declarations falls into groups (Haskell 2010
+-- Report,
 -- section 4.5.1).
 use Rattle.std.specs.Prelude.{ℕ, suc, not, List, [], ◌∷◌, ◌++◌, filter, flat_map, map, if◌then◌else◌}
 use Rattle.bp_base.specs.Texts.{Text}
 use Rattle.bp_base.specs.Lists.{is_among}
 use Rattle.hs_core.specs.declared.tree.Written.{Written}
 use Rattle.hs_core.specs.declared.tree.Pat.{Pat}
-use Rattle.hs_core.specs.declared.tree.Pat.TheVariants.{PVar, PWild, PInt, PChr, PStr, PCon', PTuple', PList', PAs', PLazy'}
+use Rattle.hs_core.specs.declared.tree.Pat.TheVariants.{PVar, PWild, PInt, PChr, PStr, PCon', PTuple', PList', PAs'}
+use Rattle.hs_core.specs.declared.tree.Pat.TheVariants.{PLazy'}
 use Rattle.hs_core.specs.declared.tree.Pat.TheBlock.{Row_of-Pat, end_of-Pat, more_of-Pat}
 use Rattle.hs_core.specs.declared.tree.Exp.{Exp}
-use Rattle.hs_core.specs.declared.tree.Exp.TheVariants.{Local, Global, Int, Chr, Str, Apply', Lambda', Let', If', Case', Tuple', List' as ListOf', RightSection', Annot'}
+use Rattle.hs_core.specs.declared.tree.Exp.TheVariants.{Local, Global, Int, Chr, Str, Apply', Lambda', Let', If', Case'}
+use Rattle.hs_core.specs.declared.tree.Exp.TheVariants.{Tuple', List' as ListOf', RightSection', Annot'}
 use Rattle.hs_core.specs.declared.tree.Decl.{Decl}
 use Rattle.hs_core.specs.declared.tree.Decl.TheVariants.{DataDecl, SynonymDecl, TypeSig, FixityOf, Clause, PatBind}
 use Rattle.hs_core.specs.declared.tree.Rhs.{Rhs, Rhs'}
 use Rattle.hs_core.specs.declared.tree.Guard.{Guard}
 use Rattle.hs_core.specs.declared.tree.Guard.TheVariants.{Test, Bind}
 use Rattle.hs_core.specs.declared.tree.Alt.{Alt, Alt'}
-use Rattle.hs_core.specs.declared.tree.Decl.TheBlock.{Row_of-Choice, end_of-Choice, more_of-Choice, Row_of-Decl, end_of-Decl, more_of-Decl, Row_of-Guard, end_of-Guard, more_of-Guard, Row_of-Exp, end_of-Exp, more_of-Exp, Row_of-Alt, end_of-Alt, more_of-Alt}
+use Rattle.hs_core.specs.declared.tree.Decl.TheBlock.{Row_of-Choice, end_of-Choice, more_of-Choice, Row_of-Decl}
+use Rattle.hs_core.specs.declared.tree.Decl.TheBlock.{end_of-Decl, more_of-Decl, Row_of-Guard, end_of-Guard}
+use Rattle.hs_core.specs.declared.tree.Decl.TheBlock.{more_of-Guard, Row_of-Exp, end_of-Exp, more_of-Exp, Row_of-Alt}
+use Rattle.hs_core.specs.declared.tree.Decl.TheBlock.{end_of-Alt, more_of-Alt}
 use Rattle.hs_core.specs.declared.group.UseList.{UseList}
 
 -- the variables of a pattern, in order (Haskell 2010 Report, section 3.17.1)
@@ -63,8 +69,10 @@ abbrev mutual
   mentioned (Str cs) = []
   mentioned (Apply' s (more_of-Exp f end_of-Exp) z es) = mentioned f ++ mentioned_in_all es
   mentioned (Lambda' ps s (more_of-Exp e end_of-Exp)) = without (flat_map pattern_names ps) (mentioned e)
-  mentioned (Let' s ds z (more_of-Exp e end_of-Exp)) = without (row_bound_names ds) (mentioned_in_decls ds ++ mentioned e)
-  mentioned (If' s (more_of-Exp a end_of-Exp) y (more_of-Exp b end_of-Exp) z (more_of-Exp c end_of-Exp)) = mentioned a ++ mentioned b ++ mentioned c
+  mentioned (Let' s ds z (more_of-Exp e end_of-Exp)) =
+      without (row_bound_names ds) (mentioned_in_decls ds ++ mentioned e)
+  mentioned (If' s (more_of-Exp a end_of-Exp) y (more_of-Exp b end_of-Exp) z (more_of-Exp c end_of-Exp)) =
+      mentioned a ++ mentioned b ++ mentioned c
   mentioned (Case' s (more_of-Exp e end_of-Exp) z as') = mentioned e ++ mentioned_in_alternatives as'
   mentioned (Tuple' s es) = mentioned_in_all es
   mentioned (ListOf' s es) = mentioned_in_all es
@@ -148,7 +156,8 @@ abbrev pub binding_it : ℕ → List LocalDecl → Text → List ℕ
 binding_it i [] x = []
 binding_it i (d ∷ ds) x = if is_among x d.binds then i ∷ binding_it (suc i) ds x else binding_it (suc i) ds x
 
--- A declaration uses those that bind a name which it mentions, unless that name has a type signature; and those that bind a name
+-- A declaration uses those that bind a name which it mentions, unless that name has a type signature; and those that
+-- bind a name
 -- with it, so that all clauses of a name stand in one group.
 abbrev pub uses_of : List LocalDecl → LocalDecl → UseList
 uses_of all d = record { uses = flat_map (binding_it 0 all) (without (signed_names all) d.mentions ++ d.binds) }

@@ -1,5 +1,6 @@
 -- What names of modules mean to kinds and types.
-use Rattle.std.specs.Prelude.{◌≡◌, ◌≢◌, ℕ, zero, suc, List, [], ◌∷◌, ◌++◌, Option, Some, None, map, flat_map, replicate, if◌then◌else◌, codes}
+use Rattle.std.specs.Prelude.{◌≡◌, ◌≢◌, ℕ, zero, suc, List, [], ◌∷◌, ◌++◌, Option, Some, None, map, flat_map, replicate}
+use Rattle.std.specs.Prelude.{if◌then◌else◌, codes}
 use Rattle.bp_base.specs.Specials.{special_name, base_prelude}
 use Rattle.bp_base.specs.declared.special.Special.{Special}
 use Rattle.bp_base.specs.declared.special.Special.TheVariants as s
@@ -13,7 +14,8 @@ use Rattle.bp_base.specs.declared.entity.Entity.{Entity}
 use Rattle.bp_base.specs.declared.entity.Entity.TheVariants.{Abstract, DataType, Synonym as SynonymOf, Value}
 use Rattle.type_terms.specs.Terms.{var, con}
 use Rattle.hs_core.specs.Sameness.{same_original}
-use Rattle.hs_core.specs.Types.{KindTerm, star, arrow, arrows, TypeTerm, applied_to, list_of, tuple_of, function, functions, special_type, integer, kind_term, type_term}
+use Rattle.hs_core.specs.Types.{KindTerm, star, arrow, arrows, TypeTerm, applied_to, list_of, tuple_of, function}
+use Rattle.hs_core.specs.Types.{functions, special_type, integer, kind_term, type_term}
 use Rattle.hs_core.specs.Kinds.{NameKinds}
 use Rattle.hs_core.specs.Expansion.{Synonym, Synonyms}
 
@@ -174,7 +176,8 @@ noted_by (DataType m k p w cs) = flat_map (λ c. flat_map (λ f. noted_in f.ty) 
 noted_by (SynonymOf m k p b) = noted_in b
 noted_by (Value m c f) = noted_in c.body
 
--- What entities declare, and behind it the kinds that their types note: so the kind of a type is known also where its name is not
+-- What entities declare, and behind it the kinds that their types note: so the kind of a type is known also where its
+-- name is not
 -- exported.
 abbrev pub names_of : List Entity → List Named
 names_of es = flat_map declared_by es ++ flat_map noted_by es

@@ -16,7 +16,8 @@ HasKind names kinds (var i) k = kinds i ≡ k
 HasKind names kinds (con n) k = names n k
 HasKind names kinds (app f a) k = (j : KindTerm) × HasKind names kinds f (arrow j k) × HasKind names kinds a j
 
--- `*` is below every kind, and an arrow is below an arrow whose parts are above its own: what stays undecided becomes `*`
+-- `*` is below every kind, and an arrow is below an arrow whose parts are above its own: what stays undecided becomes
+-- `*`
 -- (Haskell 2010 Report, section 4.6)
 abbrev pub Below : KindTerm → KindTerm → Type 0
 Below star k = Unit {0}
@@ -51,7 +52,8 @@ abbrev pub HaveStar : NameKinds → (ℕ → KindTerm) → List TypeTerm → Typ
 HaveStar names kinds [] = Unit {0}
 HaveStar names kinds (t ∷ ts) = HasKind names kinds t star × HaveStar names kinds ts
 
--- A type constructor's kind leads from its parameters' kinds to `*`, and each field has kind `*` (Haskell 2010 Report, section
+-- A type constructor's kind leads from its parameters' kinds to `*`, and each field has kind `*` (Haskell 2010 Report,
+-- section
 -- 4.2.1); a synonym's leads to the kind of its body, whatever that is (section 4.2.2).
 abbrev pub Leads : NameKinds → List KindTerm → Meaning → KindTerm → Type 0
 Leads names params (fields ts) k = (k ≡ arrows params star) × HaveStar names (kind_at params) ts
@@ -93,7 +95,8 @@ pub record AreLeastKinds (names : NameKinds) (ds : List TypeDecl) (ks : List Kin
   pub valid : IsKinding names ds ks
   pub least : (others : List KindTerm) → IsKinding names ds others → AllBelow ks others
 
--- The kind of a written type: the least that it has for any kinds of its variables, which are then the least too. `Maybe` has
+-- The kind of a written type: the least that it has for any kinds of its variables, which are then the least too.
+-- `Maybe` has
 -- `* -> *`, and a variable alone `*`.
 pub record IsKindOf (names : NameKinds) (w : Written) (k : KindTerm) : Type 0 where
   pub kinds : List KindTerm

@@ -1,4 +1,5 @@
--- Local declarations, group after group, over any meaning of "this declaration is typed" (Haskell 2010 Report, sections 4.5.1,
+-- Local declarations, group after group, over any meaning of "this declaration is typed" (Haskell 2010 Report, sections
+-- 4.5.1,
 -- 4.5.2 and 4.4.1).
 use Rattle.std.specs.Prelude.{◌≡◌, ℕ, not, List, [], ◌∷◌, ◌++◌, filter, flat_map, map, slice_index_or}
 use Rattle.bp_base.specs.Texts.{Text}
@@ -53,7 +54,8 @@ AllTyped typed kinds env given [] = Unit {0}
 AllTyped typed kinds env given (i ∷ is) = ((bs : List Bound) × typed i kinds env bs × AllAmong bs given)
     × AllTyped typed kinds env given is
 
--- One typing of a group. It may choose the kinds of variables that are not free in the environment. Each binder has one type, and
+-- One typing of a group. It may choose the kinds of variables that are not free in the environment. Each binder has one
+-- type, and
 -- inside the group those without a type signature are seen with it.
 pub record GroupTyping (typed : IsTyped) (ds : List LocalDecl) (kinds : ℕ → KindTerm) (env : List Assumption)
     (members : List ℕ) : Type 0 where
@@ -87,7 +89,8 @@ GroupAfterGroup typed ds declared kinds (g ∷ gs) env after =
     (new : List Assumption) × IsGroupTyped typed ds declared kinds env g.members new
     × GroupAfterGroup typed ds declared kinds gs (new ++ env) after
 
--- Local declarations extend an environment: by the declared types of all that have a type signature, and then by one dependency
+-- Local declarations extend an environment: by the declared types of all that have a type signature, and then by one
+-- dependency
 -- group after another.
 pub record Extends (G : Globals) (typed : IsTyped) (ds : List LocalDecl) (kinds : ℕ → KindTerm)
     (env after : List Assumption) : Type 0 where

@@ -1,6 +1,8 @@
 -- When what a module exports matches an entry of a signature (Kilpatrick and others, POPL 2014; Yang's thesis), without
--- subsumption: types match where they are equal. The types of both are expanded, and the entry is read through the filling modules.
-use Rattle.std.specs.Prelude.{◌≡◌, ◌⊎◌, ℕ, suc, nat_eq, Bool, ◌&&◌, List, [], ◌∷◌, ◌++◌, Option, Some, None, map, if◌then◌else◌}
+-- subsumption: types match where they are equal. The types of both are expanded, and the entry is read through the
+-- filling modules.
+use Rattle.std.specs.Prelude.{◌≡◌, ◌⊎◌, ℕ, suc, nat_eq, Bool, ◌&&◌, List, [], ◌∷◌, ◌++◌, Option, Some, None, map}
+use Rattle.std.specs.Prelude.{if◌then◌else◌}
 use Rattle.std.specs.List.{list_any}
 use Rattle.std.specs.Str.{bytes_eq}
 use Rattle.bp_base.specs.Texts.{Text}
@@ -22,14 +24,16 @@ entity_name (DataType n k p new cs) = n
 entity_name (Synonym n k p b) = n
 entity_name (Value n c f) = n
 
--- What a module exports for an entry of a signature: of its space and its name. Of two exports of one name the first counts.
+-- What a module exports for an entry of a signature: of its space and its name. Of two exports of one name the first
+-- counts.
 abbrev pub exported_for : Entity → List Export → Option Export
 exported_for e [] = None
 exported_for e (x ∷ xs) =
     if bytes_eq x.occ (entity_name e).occ && same_space (entity_name x.entity).space
     (entity_name e).space then Some x else exported_for e xs
 
--- An abstract type is met by an abstract type, a data type, a newtype, or a synonym without parameters; any other declaration by
+-- An abstract type is met by an abstract type, a data type, a newtype, or a synonym without parameters; any other
+-- declaration by
 -- one of its own form.
 abbrev pub SameForm : Entity → Entity → Type 0
 SameForm (Abstract n k) (Abstract m l) = Unit {0}
@@ -108,7 +112,8 @@ number_in (j ∷ js) i = if nat_eq j i then 0 else suc (number_in js i)
 abbrev pub numbered : TypeTerm → TypeTerm
 numbered t = applied (λ i. var (number_in (variables_met [] t) i)) t
 
--- A value's type is what it is up to the numbering of its variables; in a synonym's body the parameters are numbered by its head.
+-- A value's type is what it is up to the numbering of its variables; in a synonym's body the parameters are numbered by
+-- its head.
 abbrev pub types_of : Entity → List TypeTerm
 types_of (Abstract n k) = []
 types_of (DataType n k p new cs) = []

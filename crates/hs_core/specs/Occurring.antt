@@ -14,7 +14,8 @@ use Rattle.hs_core.specs.declared.tree.Pat.TheBlock.{Row_of-Pat, end_of-Pat, mor
 use Rattle.hs_core.specs.declared.tree.Decl.{Decl}
 use Rattle.hs_core.specs.declared.tree.Decl.TheVariants.{DataDecl, SynonymDecl, TypeSig, FixityOf, Clause, PatBind}
 use Rattle.hs_core.specs.declared.tree.Exp.{Exp}
-use Rattle.hs_core.specs.declared.tree.Exp.TheVariants.{Local, Global, Int, Chr, Str, Apply', Lambda', Let', If', Case', Tuple', List' as ListOf', RightSection', Annot'}
+use Rattle.hs_core.specs.declared.tree.Exp.TheVariants.{Local, Global, Int, Chr, Str, Apply', Lambda', Let', If', Case'}
+use Rattle.hs_core.specs.declared.tree.Exp.TheVariants.{Tuple', List' as ListOf', RightSection', Annot'}
 use Rattle.hs_core.specs.declared.tree.Rhs.{Rhs, Rhs'}
 use Rattle.hs_core.specs.declared.tree.Guard.{Guard}
 use Rattle.hs_core.specs.declared.tree.Guard.TheVariants.{Test, Bind}
@@ -22,7 +23,10 @@ use Rattle.hs_core.specs.declared.tree.Alt.{Alt, Alt'}
 use Rattle.hs_core.specs.declared.tree.ConDecl.{ConDecl}
 use Rattle.hs_core.specs.declared.tree.FieldDecl.{FieldDecl}
 use Rattle.hs_core.specs.declared.tree.Body.{Body}
-use Rattle.hs_core.specs.declared.tree.Decl.TheBlock.{Row_of-Choice, end_of-Choice, more_of-Choice, Row_of-Decl, end_of-Decl, more_of-Decl, Row_of-Guard, end_of-Guard, more_of-Guard, Row_of-Exp, end_of-Exp, more_of-Exp, Row_of-Alt, end_of-Alt, more_of-Alt}
+use Rattle.hs_core.specs.declared.tree.Decl.TheBlock.{Row_of-Choice, end_of-Choice, more_of-Choice, Row_of-Decl}
+use Rattle.hs_core.specs.declared.tree.Decl.TheBlock.{end_of-Decl, more_of-Decl, Row_of-Guard, end_of-Guard}
+use Rattle.hs_core.specs.declared.tree.Decl.TheBlock.{more_of-Guard, Row_of-Exp, end_of-Exp, more_of-Exp, Row_of-Alt}
+use Rattle.hs_core.specs.declared.tree.Decl.TheBlock.{end_of-Alt, more_of-Alt}
 
 abbrev pub names_of_ty : Ty → List OrigName
 names_of_ty (Var i) = []
@@ -32,7 +36,8 @@ names_of_ty (App' s (more_of-Ty f end_of-Ty) z (more_of-Ty a end_of-Ty)) = names
 abbrev pub names_of_written : Written → List OrigName
 names_of_written (WVar n) = []
 names_of_written (WCon n) = n ∷ []
-names_of_written (WApp' s (more_of-Written f end_of-Written) z (more_of-Written a end_of-Written)) = names_of_written f ++ names_of_written a
+names_of_written (WApp' s (more_of-Written f end_of-Written) z (more_of-Written a end_of-Written)) =
+    names_of_written f ++ names_of_written a
 
 abbrev mutual
   pub names_of_pat : Pat → List OrigName
@@ -64,11 +69,13 @@ abbrev mutual
   names_of_exp (Apply' s (more_of-Exp e end_of-Exp) z es) = names_of_exp e ++ names_of_exp_row es
   names_of_exp (Lambda' ps s (more_of-Exp e end_of-Exp)) = flat_map (λ p. names_of_pat p) ps ++ names_of_exp e
   names_of_exp (Let' s ds z (more_of-Exp e end_of-Exp)) = names_of_decl_row ds ++ names_of_exp e
-  names_of_exp (If' s (more_of-Exp a end_of-Exp) y (more_of-Exp b end_of-Exp) z (more_of-Exp c end_of-Exp)) = names_of_exp a ++ (names_of_exp b ++ names_of_exp c)
+  names_of_exp (If' s (more_of-Exp a end_of-Exp) y (more_of-Exp b end_of-Exp) z (more_of-Exp c end_of-Exp)) =
+      names_of_exp a ++ (names_of_exp b ++ names_of_exp c)
   names_of_exp (Case' s (more_of-Exp e end_of-Exp) z as') = names_of_exp e ++ names_of_alt_row as'
   names_of_exp (Tuple' s es) = names_of_exp_row es
   names_of_exp (ListOf' s es) = names_of_exp_row es
-  names_of_exp (RightSection' s (more_of-Exp a end_of-Exp) z (more_of-Exp b end_of-Exp)) = names_of_exp a ++ names_of_exp b
+  names_of_exp (RightSection' s (more_of-Exp a end_of-Exp) z (more_of-Exp b end_of-Exp)) =
+      names_of_exp a ++ names_of_exp b
   names_of_exp (Annot' s (more_of-Exp e end_of-Exp) t) = names_of_exp e ++ names_of_written t
 
   pub names_of_exp_row : {m : _} → Row_of-Exp m → List OrigName

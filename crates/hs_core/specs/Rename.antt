@@ -18,12 +18,15 @@ use Rattle.hs_core.specs.declared.tree.Written.{Written}
 use Rattle.hs_core.specs.declared.tree.Written.TheVariants.{WVar, WCon, WApp, WApp'}
 use Rattle.hs_core.specs.declared.tree.Written.TheBlock.{end_of-Written, more_of-Written}
 use Rattle.hs_core.specs.declared.tree.Pat.{Pat}
-use Rattle.hs_core.specs.declared.tree.Pat.TheVariants.{PCon, PCon', PTuple, PTuple', PList, PList', PAs, PAs', PLazy, PLazy'}
+use Rattle.hs_core.specs.declared.tree.Pat.TheVariants.{PCon, PCon', PTuple, PTuple', PList, PList', PAs, PAs', PLazy}
+use Rattle.hs_core.specs.declared.tree.Pat.TheVariants.{PLazy'}
 use Rattle.hs_core.specs.declared.tree.Pat.TheBlock.{Row_of-Pat, end_of-Pat, more_of-Pat}
 use Rattle.hs_core.specs.declared.tree.Decl.{Decl}
 use Rattle.hs_core.specs.declared.tree.Decl.TheVariants.{DataDecl, SynonymDecl, TypeSig, FixityOf, Clause, PatBind}
 use Rattle.hs_core.specs.declared.tree.Exp.{Exp}
-use Rattle.hs_core.specs.declared.tree.Exp.TheVariants.{Local, Global, Int, Chr, Str, Apply, Apply', Lambda, Lambda', Let, Let', If, If', Case, Case', Tuple, Tuple', List as ListOf, List' as ListOf', RightSection, RightSection', Annot, Annot'}
+use Rattle.hs_core.specs.declared.tree.Exp.TheVariants.{Local, Global, Int, Chr, Str, Apply, Apply', Lambda, Lambda'}
+use Rattle.hs_core.specs.declared.tree.Exp.TheVariants.{Let, Let', If, If', Case, Case', Tuple, Tuple', List as ListOf}
+use Rattle.hs_core.specs.declared.tree.Exp.TheVariants.{List' as ListOf', RightSection, RightSection', Annot, Annot'}
 use Rattle.hs_core.specs.declared.tree.Rhs.{Rhs, Rhs'}
 use Rattle.hs_core.specs.declared.tree.Choice.{Choice}
 use Rattle.hs_core.specs.declared.tree.Guard.{Guard}
@@ -33,7 +36,10 @@ use Rattle.hs_core.specs.declared.tree.ConDecl.{ConDecl}
 use Rattle.hs_core.specs.declared.tree.FieldDecl.{FieldDecl}
 use Rattle.hs_core.specs.declared.tree.Body.{Body}
 use Rattle.hs_core.specs.declared.tree.Decl.TheViews.{roll-Rhs, roll-Alt}
-use Rattle.hs_core.specs.declared.tree.Decl.TheBlock.{Row_of-Choice, end_of-Choice, more_of-Choice, Row_of-Decl, end_of-Decl, more_of-Decl, Row_of-Guard, end_of-Guard, more_of-Guard, Row_of-Exp, end_of-Exp, more_of-Exp, Row_of-Alt, end_of-Alt, more_of-Alt}
+use Rattle.hs_core.specs.declared.tree.Decl.TheBlock.{Row_of-Choice, end_of-Choice, more_of-Choice, Row_of-Decl}
+use Rattle.hs_core.specs.declared.tree.Decl.TheBlock.{end_of-Decl, more_of-Decl, Row_of-Guard, end_of-Guard}
+use Rattle.hs_core.specs.declared.tree.Decl.TheBlock.{more_of-Guard, Row_of-Exp, end_of-Exp, more_of-Exp, Row_of-Alt}
+use Rattle.hs_core.specs.declared.tree.Decl.TheBlock.{end_of-Alt, more_of-Alt}
 
 -- whether it says what the filler of the hole exports for the space and the occurrence
 abbrev pub is_for : Text → Space → Text → Shown → Bool
@@ -44,10 +50,13 @@ abbrev pub shown_for : Text → Space → Text → List Shown → Option OrigNam
 shown_for hole space occ [] = None
 shown_for hole space occ (s ∷ all) = if is_for hole space occ s then Some s.name else shown_for hole space occ all
 
--- A name at a hole becomes what the hole's filler exports for it, or stays where nothing is shown; every other name is filled.
+-- A name at a hole becomes what the hole's filler exports for it, or stays where nothing is shown; every other name is
+-- filled.
 abbrev pub renamed_at : Ident → Space → Text → Renaming → OrigName
-renamed_at (Hole h) space occ by = unwrap_or (shown_for h space occ by.shown) (record { at = Hole h; space = space; occ = occ })
-renamed_at (Module' s (more_of-Unit u end_of-Unit) m) space occ by = record { at = Module (filled_unit u by.fills) m; space = space; occ = occ }
+renamed_at (Hole h) space occ by = unwrap_or (shown_for h space occ by.shown)
+    (record { at = Hole h; space = space; occ = occ })
+renamed_at (Module' s (more_of-Unit u end_of-Unit) m) space occ by =
+    record { at = Module (filled_unit u by.fills) m; space = space; occ = occ }
 
 abbrev pub renamed_name : OrigName → Renaming → OrigName
 renamed_name n by = renamed_at n.at n.space n.occ by
@@ -62,7 +71,8 @@ renamed_ty (App' s (more_of-Ty f end_of-Ty) z (more_of-Ty a end_of-Ty)) by = App
 abbrev pub renamed_written : Written → Renaming → Written
 renamed_written (WVar n) by = WVar n
 renamed_written (WCon n) by = WCon (renamed_name n by)
-renamed_written (WApp' s (more_of-Written f end_of-Written) z (more_of-Written a end_of-Written)) by = WApp (renamed_written f by) (renamed_written a by)
+renamed_written (WApp' s (more_of-Written f end_of-Written) z (more_of-Written a end_of-Written)) by =
+    WApp (renamed_written f by) (renamed_written a by)
 
 -- a pattern: the locals that it binds stay
 abbrev mutual
@@ -84,7 +94,8 @@ renamed_field f by = record { strict = f.strict; ty = renamed_written f.ty by }
 abbrev pub renamed_con : ConDecl → Renaming → ConDecl
 renamed_con c by = record { occ = c.occ; fields = map (λ f. renamed_field f by) c.fields }
 
--- an expression: a local stays, and every other name is renamed; so in declarations, right sides, guards and alternatives
+-- an expression: a local stays, and every other name is renamed; so in declarations, right sides, guards and
+-- alternatives
 abbrev mutual
   pub renamed_exp : Exp → Renaming → Exp
   renamed_exp (Local n) by = Local n
@@ -95,11 +106,13 @@ abbrev mutual
   renamed_exp (Apply' s (more_of-Exp e end_of-Exp) z es) by = Apply (renamed_exp e by) (renamed_exp_row es by)
   renamed_exp (Lambda' ps s (more_of-Exp e end_of-Exp)) by = Lambda (map (λ p. renamed_pat p by) ps) (renamed_exp e by)
   renamed_exp (Let' s ds z (more_of-Exp e end_of-Exp)) by = Let (renamed_decl_row ds by) (renamed_exp e by)
-  renamed_exp (If' s (more_of-Exp a end_of-Exp) y (more_of-Exp b end_of-Exp) z (more_of-Exp c end_of-Exp)) by = If (renamed_exp a by) (renamed_exp b by) (renamed_exp c by)
+  renamed_exp (If' s (more_of-Exp a end_of-Exp) y (more_of-Exp b end_of-Exp) z (more_of-Exp c end_of-Exp)) by =
+      If (renamed_exp a by) (renamed_exp b by) (renamed_exp c by)
   renamed_exp (Case' s (more_of-Exp e end_of-Exp) z as') by = Case (renamed_exp e by) (renamed_alt_row as' by)
   renamed_exp (Tuple' s es) by = Tuple (renamed_exp_row es by)
   renamed_exp (ListOf' s es) by = ListOf (renamed_exp_row es by)
-  renamed_exp (RightSection' s (more_of-Exp a end_of-Exp) z (more_of-Exp b end_of-Exp)) by = RightSection (renamed_exp a by) (renamed_exp b by)
+  renamed_exp (RightSection' s (more_of-Exp a end_of-Exp) z (more_of-Exp b end_of-Exp)) by =
+      RightSection (renamed_exp a by) (renamed_exp b by)
   renamed_exp (Annot' s (more_of-Exp e end_of-Exp) t) by = Annot (renamed_exp e by) (renamed_written t by)
 
   pub renamed_exp_row : {m : _} → Row_of-Exp m → Renaming → List Exp
@@ -119,11 +132,15 @@ abbrev mutual
   renamed_decl_row (more_of-Decl d ds) by = renamed_decl d by ∷ renamed_decl_row ds by
 
   pub renamed_rhs : Rhs → Renaming → Rhs
-  renamed_rhs (Rhs' s cs z ds) by = roll-Rhs (record { choices = renamed_choice_row cs by; local = renamed_decl_row ds by })
+  renamed_rhs (Rhs' s cs z ds) by = roll-Rhs (record {
+    choices = renamed_choice_row cs by;
+    local = renamed_decl_row ds by;
+  })
 
   pub renamed_choice_row : {m : _} → Row_of-Choice m → Renaming → List Choice
   renamed_choice_row end_of-Choice by = []
-  renamed_choice_row (more_of-Choice s gs e cs) by = record { guards = renamed_guard_row gs by; exp = renamed_exp e by } ∷ renamed_choice_row cs by
+  renamed_choice_row (more_of-Choice s gs e cs) by =
+      record { guards = renamed_guard_row gs by; exp = renamed_exp e by } ∷ renamed_choice_row cs by
 
   pub renamed_guard : Guard → Renaming → Guard
   renamed_guard (Test e) by = Test (renamed_exp e by)
@@ -152,7 +169,11 @@ abbrev pub composed_shown : List Shown → Renaming → List Shown
 composed_shown [] by = []
 composed_shown (s ∷ all) by = record { hole = s.hole; name = renamed_name s.name by } ∷ composed_shown all by
 
--- one renaming and then another one, in one: the fills of the first are filled by those of the second, and what it shows is
+-- one renaming and then another one, in one: the fills of the first are filled by those of the second, and what it
+-- shows is
 -- renamed by the second
 abbrev pub composed_renaming : Renaming → Renaming → Renaming
-composed_renaming first next = record { fills = composed first.fills next.fills; shown = composed_shown first.shown next }
+composed_renaming first next = record {
+  fills = composed first.fills next.fills;
+  shown = composed_shown first.shown next;
+}

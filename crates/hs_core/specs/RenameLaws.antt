@@ -21,13 +21,16 @@ pub record Covers (by : Renaming) (names : List OrigName) : Type 0 where
   pub each : (n : OrigName) → Among n names → IsCovered n by
 
 abbrev pub NameRenamingComposes : Type 0
-NameRenamingComposes = (n : OrigName) (f g : Renaming) → IsCovered n f → renamed_name (renamed_name n f) g ≡ renamed_name n (composed_renaming f g)
+NameRenamingComposes = (n : OrigName) (f g : Renaming) → IsCovered n f
+    → renamed_name (renamed_name n f) g ≡ renamed_name n (composed_renaming f g)
 
 abbrev pub TypeRenamingComposes : Type 0
-TypeRenamingComposes = (t : Ty) (f g : Renaming) → Covers f (names_of_ty t) → renamed_ty (renamed_ty t f) g ≡ renamed_ty t (composed_renaming f g)
+TypeRenamingComposes = (t : Ty) (f g : Renaming) → Covers f (names_of_ty t)
+    → renamed_ty (renamed_ty t f) g ≡ renamed_ty t (composed_renaming f g)
 
 abbrev pub BodyRenamingComposes : Type 0
-BodyRenamingComposes = (b : Body) (f g : Renaming) → Covers f (names_of_body b) → renamed_body (renamed_body b f) g ≡ renamed_body b (composed_renaming f g)
+BodyRenamingComposes = (b : Body) (f g : Renaming) → Covers f (names_of_body b)
+    → renamed_body (renamed_body b f) g ≡ renamed_body b (composed_renaming f g)
 
 -- the renaming that fills nothing and shows nothing
 abbrev pub nothing : Renaming

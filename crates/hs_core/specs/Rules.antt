@@ -1,19 +1,25 @@
--- Rules on declarations that are no matter of types: what may not stand twice, and that a type signature has a binding (Haskell
+-- Rules on declarations that are no matter of types: what may not stand twice, and that a type signature has a binding
+-- (Haskell
 -- 2010 Report, sections 3.3, 3.17.1, 4.4.1 and 4.4.3).
-use Rattle.std.specs.Prelude.{ℕ, Bool, false, ◌&&◌, nat_eq, nat_lt, List, [], ◌∷◌, ◌++◌, length, flat_map, if◌then◌else◌}
+use Rattle.std.specs.Prelude.{ℕ, Bool, false, ◌&&◌, nat_eq, nat_lt, List, [], ◌∷◌, ◌++◌, length, flat_map}
+use Rattle.std.specs.Prelude.{if◌then◌else◌}
 use Rattle.std.specs.Str.{bytes_eq}
 use Rattle.bp_base.specs.Texts.{Text}
 use Rattle.bp_base.specs.Lists.{Among, AreDistinct}
 use Rattle.hs_core.specs.declared.tree.Written.{Written}
 use Rattle.hs_core.specs.declared.tree.Exp.{Exp}
-use Rattle.hs_core.specs.declared.tree.Exp.TheVariants.{Local, Global, Int, Chr, Str, Apply', Lambda', Let', If', Case', Tuple', List' as ListOf', RightSection', Annot'}
+use Rattle.hs_core.specs.declared.tree.Exp.TheVariants.{Local, Global, Int, Chr, Str, Apply', Lambda', Let', If', Case'}
+use Rattle.hs_core.specs.declared.tree.Exp.TheVariants.{Tuple', List' as ListOf', RightSection', Annot'}
 use Rattle.hs_core.specs.declared.tree.Decl.{Decl}
 use Rattle.hs_core.specs.declared.tree.Decl.TheVariants.{DataDecl, SynonymDecl, TypeSig, FixityOf, Clause, PatBind}
 use Rattle.hs_core.specs.declared.tree.Rhs.{Rhs, Rhs'}
 use Rattle.hs_core.specs.declared.tree.Guard.{Guard}
 use Rattle.hs_core.specs.declared.tree.Guard.TheVariants.{Test, Bind}
 use Rattle.hs_core.specs.declared.tree.Alt.{Alt, Alt'}
-use Rattle.hs_core.specs.declared.tree.Decl.TheBlock.{Row_of-Choice, end_of-Choice, more_of-Choice, Row_of-Decl, end_of-Decl, more_of-Decl, Row_of-Guard, end_of-Guard, more_of-Guard, Row_of-Exp, end_of-Exp, more_of-Exp, Row_of-Alt, end_of-Alt, more_of-Alt}
+use Rattle.hs_core.specs.declared.tree.Decl.TheBlock.{Row_of-Choice, end_of-Choice, more_of-Choice, Row_of-Decl}
+use Rattle.hs_core.specs.declared.tree.Decl.TheBlock.{end_of-Decl, more_of-Decl, Row_of-Guard, end_of-Guard}
+use Rattle.hs_core.specs.declared.tree.Decl.TheBlock.{more_of-Guard, Row_of-Exp, end_of-Exp, more_of-Exp, Row_of-Alt}
+use Rattle.hs_core.specs.declared.tree.Decl.TheBlock.{end_of-Alt, more_of-Alt}
 use Rattle.hs_core.specs.FreeNames.{pattern_names}
 
 -- what a declaration is to these rules
@@ -69,7 +75,8 @@ pub record IsGroupOfBindings (items : List Item) : Type 0 where
 abbrev pub WrittenTest : Type 1
 WrittenTest = Written → Type 0
 
--- The rules hold in all local declarations, no variable stands twice in the patterns of a clause, a lambda, an alternative or a
+-- The rules hold in all local declarations, no variable stands twice in the patterns of a clause, a lambda, an
+-- alternative or a
 -- guard, and each written type is as it should be.
 abbrev mutual
   pub KeepsRules : WrittenTest → Exp → Type 0
@@ -79,13 +86,17 @@ abbrev mutual
   KeepsRules Good (Chr c) = Unit {0}
   KeepsRules Good (Str cs) = Unit {0}
   KeepsRules Good (Apply' s (more_of-Exp f end_of-Exp) z es) = KeepsRules Good f × AllKeepRules Good es
-  KeepsRules Good (Lambda' ps s (more_of-Exp e end_of-Exp)) = AreDistinct (flat_map pattern_names ps) × KeepsRules Good e
-  KeepsRules Good (Let' s ds z (more_of-Exp e end_of-Exp)) = IsGroupOfBindings (items_of ds) × DeclsKeepRules Good ds × KeepsRules Good e
-  KeepsRules Good (If' s (more_of-Exp a end_of-Exp) y (more_of-Exp b end_of-Exp) z (more_of-Exp c end_of-Exp)) = KeepsRules Good a × KeepsRules Good b × KeepsRules Good c
+  KeepsRules Good (Lambda' ps s (more_of-Exp e end_of-Exp)) = AreDistinct (flat_map pattern_names ps)
+      × KeepsRules Good e
+  KeepsRules Good (Let' s ds z (more_of-Exp e end_of-Exp)) = IsGroupOfBindings (items_of ds) × DeclsKeepRules Good ds
+      × KeepsRules Good e
+  KeepsRules Good (If' s (more_of-Exp a end_of-Exp) y (more_of-Exp b end_of-Exp) z (more_of-Exp c end_of-Exp)) =
+      KeepsRules Good a × KeepsRules Good b × KeepsRules Good c
   KeepsRules Good (Case' s (more_of-Exp e end_of-Exp) z as') = KeepsRules Good e × AlternativesKeepRules Good as'
   KeepsRules Good (Tuple' s es) = AllKeepRules Good es
   KeepsRules Good (ListOf' s es) = AllKeepRules Good es
-  KeepsRules Good (RightSection' s (more_of-Exp op end_of-Exp) z (more_of-Exp a end_of-Exp)) = KeepsRules Good op × KeepsRules Good a
+  KeepsRules Good (RightSection' s (more_of-Exp op end_of-Exp) z (more_of-Exp a end_of-Exp)) = KeepsRules Good op
+      × KeepsRules Good a
   KeepsRules Good (Annot' s (more_of-Exp e end_of-Exp) t) = KeepsRules Good e × Good t
 
   pub AllKeepRules : WrittenTest → {m : _} → Row_of-Exp m → Type 0
@@ -100,11 +111,13 @@ abbrev mutual
   AlternativeKeepsRules Good (Alt' p r) = AreDistinct (pattern_names p) × RightKeepsRules Good r
 
   pub RightKeepsRules : WrittenTest → Rhs → Type 0
-  RightKeepsRules Good (Rhs' s cs z ds) = IsGroupOfBindings (items_of ds) × DeclsKeepRules Good ds × ChoicesKeepRules Good cs
+  RightKeepsRules Good (Rhs' s cs z ds) = IsGroupOfBindings (items_of ds) × DeclsKeepRules Good ds
+      × ChoicesKeepRules Good cs
 
   pub ChoicesKeepRules : WrittenTest → {m : _} → Row_of-Choice m → Type 0
   ChoicesKeepRules Good end_of-Choice = Unit {0}
-  ChoicesKeepRules Good (more_of-Choice s gs e cs) = GuardsKeepRules Good gs × KeepsRules Good e × ChoicesKeepRules Good cs
+  ChoicesKeepRules Good (more_of-Choice s gs e cs) = GuardsKeepRules Good gs × KeepsRules Good e
+      × ChoicesKeepRules Good cs
 
   pub GuardsKeepRules : WrittenTest → {m : _} → Row_of-Guard m → Type 0
   GuardsKeepRules Good end_of-Guard = Unit {0}

@@ -65,7 +65,8 @@ generalised env kinds bs = map
       };
     }) bs
 
--- a declared type with its variables rigid: they are different variables of their kinds, none of which is free in the environment
+-- a declared type with its variables rigid: they are different variables of their kinds, none of which is free in the
+-- environment
 pub record IsRigid (kinds : ℕ → KindTerm) (env : List Assumption) (c : TypeScheme) (t : TypeTerm) : Type 0 where
   pub new : ℕ → ℕ
   pub distinct : (v w : ℕ) → occurs_in v c.body ≡ true → occurs_in w c.body ≡ true → new v ≡ new w → v ≡ w

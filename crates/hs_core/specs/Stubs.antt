@@ -1,4 +1,5 @@
--- When a stub module is well typed: a hole as a module that declares exactly the entries of its merged signature (Kilpatrick and
+-- When a stub module is well typed: a hole as a module that declares exactly the entries of its merged signature
+-- (Kilpatrick and
 -- others, POPL 2014). Its values have types and no bindings.
 use Rattle.std.specs.Prelude.{ℕ, suc, List, [], ◌∷◌, ◌++◌, map, flat_map}
 use Rattle.std.specs.Option.{option_or}
@@ -9,7 +10,8 @@ use Rattle.bp_base.specs.declared.entity.Entity.TheVariants.{Abstract, DataType,
 use Rattle.hs_core.specs.Types.{KindTerm, star, arrow, TypeTerm, kind_term, type_term}
 use Rattle.hs_core.specs.Kinds.{HasKind, fields, synonym, TypeDecl, IsKinding}
 use Rattle.hs_core.specs.Expansion.{IsFullyApplied, AreLawful}
-use Rattle.hs_core.specs.Globals.{Globals, kinds_of, synonyms_of, known_names, declared_by, noted_by, in_front, no_names}
+use Rattle.hs_core.specs.Globals.{Globals, kinds_of, synonyms_of, known_names, declared_by, noted_by, in_front}
+use Rattle.hs_core.specs.Globals.{no_names}
 use Rattle.hs_core.specs.WellTyped.{AllMeaningsFull, Each}
 
 -- how many parameters lead from a kind to `*`
@@ -40,7 +42,8 @@ entry_value (DataType n k p w cs) = []
 entry_value (Synonym n k p b) = []
 entry_value (Value n c f) = type_term c.body ∷ []
 
--- What names mean in a stub module: what is known everywhere, then what its entries declare, then what is seen outside, and then the
+-- What names mean in a stub module: what is known everywhere, then what its entries declare, then what is seen outside,
+-- and then the
 -- kinds that entries note.
 abbrev pub globals_with : Globals → List Entity → Globals
 globals_with outside es n = option_or (in_front (known_names ++ flat_map declared_by es) outside n)
@@ -50,7 +53,8 @@ globals_with outside es n = option_or (in_front (known_names ++ flat_map declare
 abbrev pub IsValueType : Globals → TypeTerm → Type 0
 IsValueType G t = ((kinds : ℕ → KindTerm) × HasKind (kinds_of G) kinds t star) × IsFullyApplied (synonyms_of G) t 0
 
--- The entries of a stub module, which sees these names, are well typed. The kinds that they note are a valid kinding of them all,
+-- The entries of a stub module, which sees these names, are well typed. The kinds that they note are a valid kinding of
+-- them all,
 -- and need not be the least: whoever fills the hole has these kinds.
 pub record IsWellTypedStub (outside : Globals) (es : List Entity) : Type 0 where
   pub names_once : AreDistinct (map (λ n. n.name) (flat_map declared_by es))

@@ -1,20 +1,27 @@
 -- The typing relation (Damas and Milner; Haskell 2010 Report, chapter 3 and sections 4.4 and 4.5).
 use Rattle.std.specs.Prelude.{◌≡◌, ℕ, zero, suc, Bool, true, List, [], ◌∷◌, ◌++◌}
 use Rattle.hs_core.specs.declared.tree.Pat.{Pat}
-use Rattle.hs_core.specs.declared.tree.Pat.TheVariants.{PVar, PWild, PInt, PChr, PStr, PCon', PTuple', PList', PAs', PLazy'}
+use Rattle.hs_core.specs.declared.tree.Pat.TheVariants.{PVar, PWild, PInt, PChr, PStr, PCon', PTuple', PList', PAs'}
+use Rattle.hs_core.specs.declared.tree.Pat.TheVariants.{PLazy'}
 use Rattle.hs_core.specs.declared.tree.Pat.TheBlock.{Row_of-Pat, end_of-Pat, more_of-Pat}
 use Rattle.hs_core.specs.declared.tree.Exp.{Exp}
-use Rattle.hs_core.specs.declared.tree.Exp.TheVariants.{Local, Global, Int, Chr, Str, Apply', Lambda', Let', If', Case', Tuple', List' as ListOf', RightSection', Annot'}
+use Rattle.hs_core.specs.declared.tree.Exp.TheVariants.{Local, Global, Int, Chr, Str, Apply', Lambda', Let', If', Case'}
+use Rattle.hs_core.specs.declared.tree.Exp.TheVariants.{Tuple', List' as ListOf', RightSection', Annot'}
 use Rattle.hs_core.specs.declared.tree.Decl.{Decl}
 use Rattle.hs_core.specs.declared.tree.Decl.TheVariants.{DataDecl, SynonymDecl, TypeSig, FixityOf, Clause, PatBind}
 use Rattle.hs_core.specs.declared.tree.Rhs.{Rhs, Rhs'}
 use Rattle.hs_core.specs.declared.tree.Guard.{Guard}
 use Rattle.hs_core.specs.declared.tree.Guard.TheVariants.{Test, Bind}
 use Rattle.hs_core.specs.declared.tree.Alt.{Alt, Alt'}
-use Rattle.hs_core.specs.declared.tree.Decl.TheBlock.{Row_of-Choice, end_of-Choice, more_of-Choice, Row_of-Decl, end_of-Decl, more_of-Decl, Row_of-Guard, end_of-Guard, more_of-Guard, Row_of-Exp, end_of-Exp, more_of-Exp, Row_of-Alt, end_of-Alt, more_of-Alt}
-use Rattle.hs_core.specs.Types.{KindTerm, star, TypeTerm, integer, character, boolean, function, functions, list_of, tuple_of, count}
+use Rattle.hs_core.specs.declared.tree.Decl.TheBlock.{Row_of-Choice, end_of-Choice, more_of-Choice, Row_of-Decl}
+use Rattle.hs_core.specs.declared.tree.Decl.TheBlock.{end_of-Decl, more_of-Decl, Row_of-Guard, end_of-Guard}
+use Rattle.hs_core.specs.declared.tree.Decl.TheBlock.{more_of-Guard, Row_of-Exp, end_of-Exp, more_of-Exp, Row_of-Alt}
+use Rattle.hs_core.specs.declared.tree.Decl.TheBlock.{end_of-Alt, more_of-Alt}
+use Rattle.hs_core.specs.Types.{KindTerm, star, TypeTerm, integer, character, boolean, function, functions, list_of}
+use Rattle.hs_core.specs.Types.{tuple_of, count}
 use Rattle.hs_core.specs.Kinds.{NameKinds, HasKind}
-use Rattle.hs_core.specs.Schemes.{TypeScheme, IsInstance, IsDeclared, Assumption, Bound, monomorphic, Selects, IsRigid, Agree}
+use Rattle.hs_core.specs.Schemes.{TypeScheme, IsInstance, IsDeclared, Assumption, Bound, monomorphic, Selects, IsRigid}
+use Rattle.hs_core.specs.Schemes.{Agree}
 use Rattle.hs_core.specs.Globals.{Constructor, Globals, plain_names, HasDeclared, HasConstructor}
 use Rattle.hs_core.specs.FreeNames.{local_decls}
 use Rattle.hs_core.specs.LocalGroups.{HasScheme, Extends}
@@ -31,7 +38,8 @@ Kinds = ℕ → KindTerm
 abbrev pub IsProperType : Globals → TypeTest → Kinds → TypeTerm → Type 0
 IsProperType G fits kinds t = (fits t ≡ true) × HasKind (plain_names G) kinds t star
 
--- A constructor's fields have these types, and its data type this one: as a function it is an instance of its declared type.
+-- A constructor's fields have these types, and its data type this one: as a function it is an instance of its declared
+-- type.
 pub record IsBuilt (names : NameKinds) (kinds : Kinds) (c : Constructor) (fields : List TypeTerm)
     (result : TypeTerm) : Type 0 where
   pub scheme : TypeScheme

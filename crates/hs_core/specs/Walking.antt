@@ -1,5 +1,6 @@
 -- What is pending in a depth-first walk, and how far it has come. No public clause speaks of these.
-use Rattle.std.specs.Prelude.{◌≡◌, ◌⊎◌, ◌<◌, ◌≤◌, ℕ, Bool, true, false, List, [], ◌∷◌, ◌++◌, length, reverse, slice_index_or, slice_set, drop}
+use Rattle.std.specs.Prelude.{◌≡◌, ◌⊎◌, ◌<◌, ◌≤◌, ℕ, Bool, true, false, List, [], ◌∷◌, ◌++◌, length, reverse}
+use Rattle.std.specs.Prelude.{slice_index_or, slice_set, drop}
 use Rattle.std.specs.List.Sorted.{IsStrictlyIncreasing}
 use Rattle.bp_base.specs.Lists.{Among}
 use Rattle.hs_core.specs.declared.group.UseList.{UseList}
@@ -23,7 +24,8 @@ path_of (Leave v ∷ steps) = v ∷ path_of steps
 -- what is pending, uppermost first, leaves these done
 abbrev pub Leads : List UseList → List Step → List ℕ → List ℕ → Type 0
 Leads g [] done new = done ≡ new
-Leads g (Enter v ∷ steps) done new = (mid : List ℕ) × DepthFirst g (path_of steps) done (v ∷ []) mid × Leads g steps mid new
+Leads g (Enter v ∷ steps) done new = (mid : List ℕ) × DepthFirst g (path_of steps) done (v ∷ []) mid
+    × Leads g steps mid new
 Leads g (Leave v ∷ steps) done new = Leads g steps (done ++ v ∷ []) new
 
 -- what is marked as begun
@@ -45,9 +47,11 @@ pub data IsStep (g : List UseList) : Step → List Step → Walked → List Step
   again : (v : ℕ) (below more : List Step) (walked : Walked) → slice_index_or walked.begun v false ≡ true → more ≡ below
       → IsStep g (Enter v) below walked more walked
   begins : (v : ℕ) (below more : List Step) (walked new : Walked) → slice_index_or walked.begun v false ≡ false
-      → more ≡ enters (uses_at g v) ++ Leave v ∷ below → new.begun ≡ slice_set walked.begun v true → new.done ≡ walked.done
+      → more ≡ enters (uses_at g v) ++ Leave v ∷ below → new.begun ≡ slice_set walked.begun v true
+      → new.done ≡ walked.done
       → IsStep g (Enter v) below walked more new
-  leaves : (v : ℕ) (below more : List Step) (walked new : Walked) → more ≡ below → new.begun ≡ walked.begun → new.done ≡ walked.done ++ v ∷ []
+  leaves : (v : ℕ) (below more : List Step) (walked new : Walked) → more ≡ below → new.begun ≡ walked.begun
+      → new.done ≡ walked.done ++ v ∷ []
       → IsStep g (Leave v) below walked more new
 
 -- a walk on its way from `start`, with what is pending, uppermost first
@@ -95,9 +99,11 @@ pub record IsGathered (h : List UseList) (v : ℕ) (old new : Walked) (groups mo
   pub is : more ≡ groups ++ group ∷ []
   pub rising : IsRising (drop (length old.done) new.done) group
 
--- The groups of the numbers that were gone through, from the last one on; `left` are still to be gone through, and `h` is the graph
+-- The groups of the numbers that were gone through, from the last one on; `left` are still to be gone through, and `h`
+-- is the graph
 -- turned round.
-pub record IsGathering (g h : List UseList) (order left : List ℕ) (walked : Walked) (groups : List IndexGroup) : Type 0 where
+pub record IsGathering (g h : List UseList) (order left : List ℕ) (walked : Walked)
+    (groups : List IndexGroup) : Type 0 where
   pub past : List ℕ
   pub is : order ≡ left ++ past
   pub rest : IsAtRest h walked

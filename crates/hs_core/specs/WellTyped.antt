@@ -1,5 +1,6 @@
 -- When a module's declarations are well typed.
-use Rattle.std.specs.Prelude.{◌≡◌, ℕ, suc, nat_eq, Bool, true, false, not, List, [], ◌∷◌, ◌++◌, Some, length, map, filter, flat_map, slice_get, option_to_list, if◌then◌else◌}
+use Rattle.std.specs.Prelude.{◌≡◌, ℕ, suc, nat_eq, Bool, true, false, not, List, [], ◌∷◌, ◌++◌, Some, length, map}
+use Rattle.std.specs.Prelude.{filter, flat_map, slice_get, option_to_list, if◌then◌else◌}
 use Rattle.std.specs.List.{list_any}
 use Rattle.std.specs.Str.{bytes_eq}
 use Rattle.bp_base.specs.Texts.{Text}
@@ -21,7 +22,8 @@ use Rattle.hs_core.specs.Types.{KindTerm, star, TypeTerm, applied_to, variables,
 use Rattle.hs_core.specs.Kinds.{HasKind, NameKinds, Meaning, fields, synonym, TypeDecl, within_group, AreLeastKinds}
 use Rattle.hs_core.specs.Expansion.{Synonyms, Expands, ExpandEach, IsFullyApplied, AreLawful}
 use Rattle.hs_core.specs.Schemes.{Assumption}
-use Rattle.hs_core.specs.Globals.{Globals, Named, type_name, synonym_name, value_name, constructor_name, kinds_of, synonyms_of, known_names, in_front, variables_from}
+use Rattle.hs_core.specs.Globals.{Globals, Named, type_name, synonym_name, value_name, constructor_name, kinds_of}
+use Rattle.hs_core.specs.Globals.{synonyms_of, known_names, in_front, variables_from}
 use Rattle.hs_core.specs.FreeNames.{bound_names, local_decl, all_signed, signed_by}
 use Rattle.hs_core.specs.LocalGroups.{IsTyped, HaveSchemes, IsGroupTyped}
 use Rattle.hs_core.specs.Typing.{TypeTest, IsTypedDecl}
@@ -31,7 +33,8 @@ use Rattle.hs_core.specs.Rules.{item_of, items_bound, items_signed, AllIn, IsGro
 abbrev pub typed_in : Globals → TypeTest → List Decl → IsTyped
 typed_in G fits ds i kinds env bs = (d : Decl) × (slice_get ds i ≡ Some d) × IsTypedDecl G fits d kinds env bs
 
--- A binding of a module has its declared types: all clauses of a name, or one pattern binding, with the type signatures of its
+-- A binding of a module has its declared types: all clauses of a name, or one pattern binding, with the type signatures
+-- of its
 -- names, which are `sigs`. A module's names are no locals, so its environment is empty.
 abbrev pub HasDeclaredTypes : Globals → TypeTest → List Decl → List Decl → Type 0
 HasDeclaredTypes G fits sigs clauses = (declared : List Assumption)
@@ -156,7 +159,8 @@ HasLawfulHead (FixityOf x f) = Unit {0}
 HasLawfulHead (Clause x ps r) = Unit {0}
 HasLawfulHead (PatBind p r) = Unit {0}
 
--- A written type has a kind for some kinds of its variables, and its synonyms are fully applied. Of a type signature and an
+-- A written type has a kind for some kinds of its variables, and its synonyms are fully applied. Of a type signature
+-- and an
 -- annotation the kind is `*`.
 abbrev pub IsWellKinded : Globals → Written → Type 0
 IsWellKinded G w = ((kinds : ℕ → KindTerm) × HasKind (kinds_of G) kinds (written_term (variables w) w) star)
@@ -202,7 +206,8 @@ AllLeast names ds ks [] = Unit {0}
 AllLeast names ds ks (g ∷ gs) = AreLeastKinds names (chosen ds g.members) (chosen ks g.members)
     × AllLeast (within_group names (chosen ds g.members) (chosen ks g.members)) ds ks gs
 
--- The kinds of type declarations, over the names that are seen outside: those of one dependency group after another (Haskell 2010
+-- The kinds of type declarations, over the names that are seen outside: those of one dependency group after another
+-- (Haskell 2010
 -- Report, section 4.6).
 pub record AreKinds (outside : NameKinds) (ds : List TypeDecl) (ks : List KindTerm) : Type 0 where
   pub each : length ks ≡ length ds
@@ -231,7 +236,8 @@ abbrev pub is_of : Text → List Decl → Bool
 is_of x (Clause y ps r ∷ ds) = bytes_eq x y
 is_of x ds = false
 
--- The bindings of a module, in order: all clauses of one name, or one pattern binding (Haskell 2010 Report, section 4.4.3).
+-- The bindings of a module, in order: all clauses of one name, or one pattern binding (Haskell 2010 Report, section
+-- 4.4.3).
 abbrev pub bindings_of : List Decl → List (List Decl)
 bindings_of [] = []
 bindings_of (Clause x ps r ∷ ds) = (Clause x ps r ∷ clauses_of x ds) ∷ filter (λ b. not (is_of x b)) (bindings_of ds)
@@ -250,7 +256,8 @@ Each P (x ∷ xs) = P x × Each P xs
 abbrev pub type_names : List Located → List OrigName
 type_names ds = map (λ d. d.name) (type_decls ds)
 
--- The types that declarations declare and write are well kinded, over names that are seen outside. The declarations are those of
+-- The types that declarations declare and write are well kinded, over names that are seen outside. The declarations are
+-- those of
 -- one module, or those of several signatures, which are taken together.
 pub record AreWellKinded (outside : Globals) (ds : List Located) : Type 0 where
   pub kinds : List KindTerm

@@ -26,7 +26,7 @@ fn no_renaming(alloc: Global) -> Renaming
 
 impl Written {
     /// The same written type once more.
-    #[tactic(auto, using(crate::proofs::TreesNothing::sameness))]
+    #[tactic(auto, using(crate::proofs::TreesNothingLemmas::sameness))]
     pub fn copied(&self, alloc: Global) -> Result<Written, AllocError>
         ensures { IfOk result (λ r. r ≡ self.now) }
     {
@@ -38,7 +38,7 @@ impl Written {
 
 impl FieldDecl {
     /// The same field once more.
-    #[tactic(auto, using(crate::proofs::TreesNothing::sameness))]
+    #[tactic(auto, using(crate::proofs::TreesNothingLemmas::sameness))]
     pub fn copied(&self, alloc: Global) -> Result<FieldDecl, AllocError>
         ensures { IfOk result (λ r. r ≡ self.now) }
     {
@@ -50,7 +50,7 @@ impl FieldDecl {
 
 impl ConDecl {
     /// The same constructor once more.
-    #[tactic(auto, using(crate::proofs::TreesNothing::sameness))]
+    #[tactic(auto, using(crate::proofs::TreesNothingLemmas::sameness))]
     pub fn copied(&self, alloc: Global) -> Result<ConDecl, AllocError>
         ensures { IfOk result (λ r. r ≡ self.now) }
     {
@@ -62,7 +62,7 @@ impl ConDecl {
 
 impl Pat {
     /// The same pattern once more.
-    #[tactic(auto, using(crate::proofs::TreesNothing::sameness))]
+    #[tactic(auto, using(crate::proofs::TreesNothingLemmas::sameness))]
     pub fn copied(&self, alloc: Global) -> Result<Pat, AllocError>
         ensures { IfOk result (λ r. r ≡ self.now) }
     {
@@ -74,7 +74,7 @@ impl Pat {
 
 impl Exp {
     /// The same expression once more.
-    #[tactic(auto, using(crate::proofs::TreesNothing::sameness))]
+    #[tactic(auto, using(crate::proofs::TreesNothingLemmas::sameness))]
     pub fn copied(&self, alloc: Global) -> Result<Exp, AllocError>
         ensures { IfOk result (λ r. r ≡ self.now) }
     {
@@ -86,7 +86,7 @@ impl Exp {
 
 impl Decl {
     /// The same declaration once more.
-    #[tactic(auto, using(crate::proofs::TreesNothing::sameness))]
+    #[tactic(auto, using(crate::proofs::TreesNothingLemmas::sameness))]
     pub fn copied(&self, alloc: Global) -> Result<Decl, AllocError>
         ensures { IfOk result (λ r. r ≡ self.now) }
     {
@@ -98,7 +98,7 @@ impl Decl {
 
 impl Rhs {
     /// The same right side once more.
-    #[tactic(auto, using(crate::proofs::TreesNothing::sameness))]
+    #[tactic(auto, using(crate::proofs::TreesNothingLemmas::sameness))]
     pub fn copied(&self, alloc: Global) -> Result<Rhs, AllocError>
         ensures { IfOk result (λ r. r ≡ self.now) }
     {
@@ -110,7 +110,7 @@ impl Rhs {
 
 impl Choice {
     /// The same choice once more.
-    #[tactic(auto, using(crate::proofs::TreesNothing::sameness))]
+    #[tactic(auto, using(crate::proofs::TreesNothingLemmas::sameness))]
     pub fn copied(&self, alloc: Global) -> Result<Choice, AllocError>
         ensures { IfOk result (λ r. r ≡ self.now) }
     {
@@ -122,7 +122,7 @@ impl Choice {
 
 impl Guard {
     /// The same guard once more.
-    #[tactic(auto, using(crate::proofs::TreesNothing::sameness))]
+    #[tactic(auto, using(crate::proofs::TreesNothingLemmas::sameness))]
     pub fn copied(&self, alloc: Global) -> Result<Guard, AllocError>
         ensures { IfOk result (λ r. r ≡ self.now) }
     {
@@ -134,7 +134,7 @@ impl Guard {
 
 impl Alt {
     /// The same alternative once more.
-    #[tactic(auto, using(crate::proofs::TreesNothing::sameness))]
+    #[tactic(auto, using(crate::proofs::TreesNothingLemmas::sameness))]
     pub fn copied(&self, alloc: Global) -> Result<Alt, AllocError>
         ensures { IfOk result (λ r. r ≡ self.now) }
     {
@@ -146,7 +146,7 @@ impl Alt {
 
 impl Body {
     /// The same declarations once more.
-    #[tactic(auto, using(crate::proofs::TreesNothing::sameness))]
+    #[tactic(auto, using(crate::proofs::TreesNothingLemmas::sameness))]
     pub fn copied(&self, alloc: Global) -> Result<Body, AllocError>
         ensures { IfOk result (λ r. r ≡ self.now) }
     {
@@ -169,7 +169,7 @@ impl Checked {
 }
 
 /// The same declarations once more.
-#[tactic(auto, using(crate::proofs::TreesNothing::sameness))]
+#[tactic(auto, using(crate::proofs::TreesNothingLemmas::sameness))]
 pub fn copied_decls(alloc: Global, decls: &Decls) -> Result<Decls, AllocError>
     ensures { IfOk result (λ r. r ≡ decls.now) }
 {

@@ -32,7 +32,7 @@ fn find_shown<'a>(all: &'a [Shown], hole: &Name, space: Space, occ: &Name) -> Op
 }
 
 /// The name after the renaming.
-#[tactic(auto, using(crate::proofs::Names::name_equations))]
+#[tactic(auto, using(crate::proofs::NameLemmas::name_equations))]
 pub fn rename_name(alloc: Global, name: &OrigName, by: &Renaming) -> Result<OrigName, AllocError>
     ensures { IfOk result (λ r. r ≡ renamed_name name.now by.now) }
 {
@@ -58,7 +58,7 @@ pub fn rename_name(alloc: Global, name: &OrigName, by: &Renaming) -> Result<Orig
 }
 
 /// The type with each name renamed. Kinds stay.
-#[tactic(auto, using(crate::proofs::Names::type_equations))]
+#[tactic(auto, using(crate::proofs::NameLemmas::type_equations))]
 pub fn rename_ty(alloc: Global, ty: &Ty, by: &Renaming) -> Result<Ty, AllocError>
     ensures { IfOk result (λ r. r ≡ renamed_ty ty.now by.now) }
 {
@@ -80,7 +80,7 @@ pub fn rename_ty(alloc: Global, ty: &Ty, by: &Renaming) -> Result<Ty, AllocError
 }
 
 /// The written type with each name renamed. Variables stay.
-#[tactic(auto, using(crate::proofs::Names::type_equations))]
+#[tactic(auto, using(crate::proofs::NameLemmas::type_equations))]
 pub fn rename_written(alloc: Global, ty: &Written, by: &Renaming) -> Result<Written, AllocError>
     ensures { IfOk result (λ r. r ≡ renamed_written ty.now by.now) }
 {
@@ -154,7 +154,7 @@ pub fn rename_cons(alloc: Global, all: &ConDecls, by: &Renaming) -> Result<ConDe
 
 /// The pattern with each constructor renamed. The locals that it binds stay.
 #[cycle(pat)]
-#[tactic(auto, using(crate::proofs::Patterns::pattern_equations))]
+#[tactic(auto, using(crate::proofs::PatternLemmas::pattern_equations))]
 pub fn rename_pat(alloc: Global, pat: &Pat, by: &Renaming) -> Result<Pat, AllocError>
     ensures { IfOk result (λ r. r ≡ renamed_pat pat.now by.now) }
 {

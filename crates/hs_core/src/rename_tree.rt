@@ -10,7 +10,7 @@ use std::alloc::{AllocError, Global};
 
 /// The expression with each name renamed. Locals stay.
 #[cycle(exp)]
-#[tactic(auto, using(crate::proofs::Trees::tree_equations))]
+#[tactic(auto, using(crate::proofs::TreeLemmas::tree_equations))]
 pub fn rename_exp(alloc: Global, exp: &Exp, by: &Renaming) -> Result<Exp, AllocError>
     ensures { IfOk result (λ r. r ≡ renamed_exp exp.now by.now) }
 {
@@ -108,7 +108,7 @@ pub fn rename_exps(alloc: Global, all: &Exps, by: &Renaming) -> Result<Exps, All
 
 /// The declaration with each name renamed. What it declares stays.
 #[cycle(exp)]
-#[tactic(auto, using(crate::proofs::Trees::tree_equations))]
+#[tactic(auto, using(crate::proofs::TreeLemmas::tree_equations))]
 pub fn rename_decl(alloc: Global, decl: &Decl, by: &Renaming) -> Result<Decl, AllocError>
     ensures { IfOk result (λ r. r ≡ renamed_decl decl.now by.now) }
 {
@@ -163,7 +163,7 @@ pub fn rename_decls(alloc: Global, all: &Decls, by: &Renaming) -> Result<Decls, 
 
 /// The right side with each name renamed.
 #[cycle(exp)]
-#[tactic(auto, using(crate::proofs::Trees::tree_equations))]
+#[tactic(auto, using(crate::proofs::TreeLemmas::tree_equations))]
 pub fn rename_rhs(alloc: Global, rhs: &Rhs, by: &Renaming) -> Result<Rhs, AllocError>
     ensures { IfOk result (λ r. r ≡ renamed_rhs rhs.now by.now) }
 {
@@ -238,7 +238,7 @@ pub fn rename_alts(alloc: Global, all: &Alts, by: &Renaming) -> Result<Alts, All
 
 /// The alternative with each name renamed.
 #[cycle(exp)]
-#[tactic(auto, using(crate::proofs::Trees::tree_equations))]
+#[tactic(auto, using(crate::proofs::TreeLemmas::tree_equations))]
 pub fn rename_alt(alloc: Global, alt: &Alt, by: &Renaming) -> Result<Alt, AllocError>
     ensures { IfOk result (λ r. r ≡ renamed_alt alt.now by.now) }
 {

@@ -1,10 +1,10 @@
-pub mod Deriving
-pub mod Derivations
-pub mod Refuting
-pub mod Smaller
-pub mod SeveralClauses
+pub mod DerivingLemmas
+pub mod DerivationLemmas
+pub mod RefutingLemmas
+pub mod SmallerLemmas
+pub mod SeveralClauseLemmas
 pub mod StabilityLemmas
-pub mod Bindings
+pub mod BindingLemmas
 pub mod NameExamples
 pub mod LocalExamples
 pub mod ModuleExamples

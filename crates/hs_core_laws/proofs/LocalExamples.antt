@@ -1,7 +1,8 @@
 -- Local declarations: two groups, a type signature, and a `where` over guards.
 use Rattle.bp_base.specs.declared.ident.Ident.TheViews.{roll-Unit}
 use Rattle.bp_base.specs.declared.ident.Ident.TheBlock.{hidden-the_row-Unit-0, hidden-the_row-Fill-1}
-use Rattle.std.proofs.Common.{◌≡◌, refl, sym, ap, ◌∙◌, subst, inl, inr, ℕ, zero, suc, ◌≤◌, arith, Bool, true, false, true≢false, not, ◌&&◌, ◌||◌, List, [], ◌∷◌, ◌++◌}
+use Rattle.std.proofs.Common.{◌≡◌, refl, sym, ap, ◌∙◌, subst, inl, inr, ℕ, zero, suc, ◌≤◌, arith, Bool, true, false}
+use Rattle.std.proofs.Common.{true≢false, not, ◌&&◌, ◌||◌, List, [], ◌∷◌, ◌++◌}
 use Rattle.std.specs.Prelude.{codes, ◌≢◌, nat_eq}
 use Rattle.std.specs.Str.{bytes_eq}
 use Rattle.std.specs.List.Sorted.{IsStrictlyIncreasing}
@@ -14,7 +15,8 @@ use Rattle.hs_core.specs.declared.tree.Pat.TheVariants.{PVar}
 use Rattle.hs_core.specs.declared.tree.Exp.TheVariants.{Local, Int, Apply, Let, List as ListOf}
 use Rattle.hs_core.specs.declared.tree.Decl.{Decl}
 use Rattle.hs_core.specs.declared.tree.Decl.TheVariants.{TypeSig, Clause}
-use Rattle.hs_core.specs.declared.tree.Decl.TheBlock.{hidden-the_row-Exp-0, hidden-the_row-Exp-1, hidden-the_row-Decl-2, hidden-the_row-Guard-4, hidden-the_row-Choice-5}
+use Rattle.hs_core.specs.declared.tree.Decl.TheBlock.{hidden-the_row-Exp-0, hidden-the_row-Exp-1, hidden-the_row-Decl-2}
+use Rattle.hs_core.specs.declared.tree.Decl.TheBlock.{hidden-the_row-Guard-4, hidden-the_row-Choice-5}
 use Rattle.hs_core.specs.declared.tree.Decl.TheViews.{roll-Rhs}
 use Rattle.hs_core.specs.declared.group.UseList.{UseList}
 use Rattle.hs_core.specs.declared.group.IndexGroup.{IndexGroup}
@@ -22,7 +24,8 @@ use Rattle.hs_core.specs.Groups.{uses_at, Reaches, Together, AreGroups, IsGroupO
 use Rattle.hs_core.specs.Groups.Reaches.{here, along}
 use Rattle.hs_core.specs.Groups.DepthFirst.{ended, met, visited}
 use Rattle.hs_core.specs.Groups.Grouped.{none, last}
-use Rattle.hs_core.specs.Types.{star, TypeTerm, function, integer, character, list_of, tuple_of, any, variables, written_term}
+use Rattle.hs_core.specs.Types.{star, TypeTerm, function, integer, character, list_of, tuple_of, any, variables}
+use Rattle.hs_core.specs.Types.{written_term}
 use Rattle.hs_core.specs.Kinds.{HasKind}
 use Rattle.hs_core.specs.Expansion.{Expands}
 use Rattle.hs_core.specs.Expansion.Expands.{variable, application}
@@ -32,11 +35,13 @@ use Rattle.hs_core.specs.FreeNames.{LocalDecl, local_decl}
 use Rattle.hs_core.specs.LocalGroups.{IsTyped, GroupTyping, MeetsSignature, Extends}
 use Rattle.hs_core.specs.Typing.{HasType, IsTypedDecl}
 use Rattle.hs_core_laws.specs.Examples.{simply, int_written, char_written, function_written, pair_written, is_simply}
-use Rattle.hs_core_laws.specs.Programs.{itself, two_bindings, uses_of_both, calls_itself, where_clause, GroupAfterGroupIsTyped, PolymorphicRecursionIsTyped, WhereIsSeenInGuards}
-use Rattle.hs_core_laws.proofs.Deriving.{bare, bare_name, alone, one_group, simply_has, integer_kind, character_kind, function_kind, pair_of_kind, single_instance}
-use Rattle.hs_core_laws.proofs.Derivations.{stars, of_stars, only_one, to_itself, binding_typed, written_pair}
-use Rattle.hs_core_laws.proofs.SeveralClauses.{written_function}
-use Rattle.hs_core_laws.proofs.Bindings.{one_binding, declared_with_stars}
+use Rattle.hs_core_laws.specs.Programs.{itself, two_bindings, uses_of_both, calls_itself, where_clause}
+use Rattle.hs_core_laws.specs.Programs.{GroupAfterGroupIsTyped, PolymorphicRecursionIsTyped, WhereIsSeenInGuards}
+use Rattle.hs_core_laws.proofs.DerivingLemmas.{bare, bare_name, alone, one_group, simply_has, integer_kind}
+use Rattle.hs_core_laws.proofs.DerivingLemmas.{character_kind, function_kind, pair_of_kind, single_instance}
+use Rattle.hs_core_laws.proofs.DerivationLemmas.{stars, of_stars, only_one, to_itself, binding_typed, written_pair}
+use Rattle.hs_core_laws.proofs.SeveralClauseLemmas.{written_function}
+use Rattle.hs_core_laws.proofs.BindingLemmas.{one_binding, declared_with_stars}
 use denote.Hole.Carrier.{hidden, roll}
 
 -- ---- two declarations, of which the second may use the first

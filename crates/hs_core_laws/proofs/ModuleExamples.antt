@@ -15,7 +15,8 @@ use Rattle.hs_core.specs.declared.tree.Written.TheVariants.{WVar}
 use Rattle.hs_core.specs.declared.tree.Pat.TheVariants.{PVar}
 use Rattle.hs_core.specs.declared.tree.Exp.TheVariants.{Local, Int}
 use Rattle.hs_core.specs.declared.tree.Decl.TheViews.{roll-Rhs}
-use Rattle.hs_core.specs.declared.tree.Decl.TheBlock.{hidden-the_row-Exp-0, hidden-the_row-Decl-2, hidden-the_row-Choice-5}
+use Rattle.hs_core.specs.declared.tree.Decl.TheBlock.{hidden-the_row-Exp-0, hidden-the_row-Decl-2}
+use Rattle.hs_core.specs.declared.tree.Decl.TheBlock.{hidden-the_row-Choice-5}
 use Rattle.hs_core.specs.Types.{star, arrow, TypeTerm, any, within, depth, function, functions, integer}
 use Rattle.hs_core.specs.Expansion.{Synonym}
 use Rattle.hs_core.specs.Expansion.Expands.{name}
@@ -27,10 +28,12 @@ use Rattle.hs_core.specs.WellTyped.{globals_in, IsWellKinded}
 use Rattle.hs_core.specs.Stubs.{globals_with}
 use Rattle.hs_core.proofs.ExpansionLemmas.{starts}
 use Rattle.hs_core_laws.specs.Examples.{int_written, function_written, is_simply, returns_argument, here_named}
-use Rattle.hs_core_laws.specs.Programs.{of_higher_kind, AnnotationIsTyped, DepthIsMeasured, ModuleIsWellTyped, ClausesAreOneBinding, StubIsWellTyped}
-use Rattle.hs_core_laws.proofs.Deriving.{bare, no_groups, simply_has, first_typed, integer_kind, function_kind, single_instance}
-use Rattle.hs_core_laws.proofs.Derivations.{stars, of_stars, lambda_has, written_identity}
-use Rattle.hs_core_laws.proofs.Bindings.{one_binding, declared_with_stars}
+use Rattle.hs_core_laws.specs.Programs.{of_higher_kind, AnnotationIsTyped, DepthIsMeasured, ModuleIsWellTyped}
+use Rattle.hs_core_laws.specs.Programs.{ClausesAreOneBinding, StubIsWellTyped}
+use Rattle.hs_core_laws.proofs.DerivingLemmas.{bare, no_groups, simply_has, first_typed, integer_kind, function_kind}
+use Rattle.hs_core_laws.proofs.DerivingLemmas.{single_instance}
+use Rattle.hs_core_laws.proofs.DerivationLemmas.{stars, of_stars, lambda_has, written_identity}
+use Rattle.hs_core_laws.proofs.BindingLemmas.{one_binding, declared_with_stars}
 use denote.Hole.Carrier.{hidden, roll}
 
 pub annotation_is_typed : AnnotationIsTyped
@@ -99,7 +102,8 @@ abbrev names_there : Globals
 names_there = globals_in (globals_of []) its_names
 
 keeps : DeclKeepsRules (IsWellKinded names_there) (is_simply (codes "x") (Int 1))
-unfolding roll-Rhs roll hidden-the_row-Decl-2 hidden hidden-the_row-Choice-5 roll-Unit hidden-the_row-Unit-0 hidden-the_row-Fill-1
+unfolding roll-Rhs roll hidden-the_row-Decl-2 hidden hidden-the_row-Choice-5 roll-Unit hidden-the_row-Unit-0
+    hidden-the_row-Fill-1
 keeps = (tt, (record { bound_once = tt; signed_once = tt; signed_bound = tt }, tt, ((tt, tt, tt))))
 
 one_typed : IsTypedDecl names_there any (is_simply (codes "x") (Int 1)) stars []

@@ -20,11 +20,12 @@ use Rattle.hs_core.specs.Globals.{Globals, globals_of, negate, HasDeclared}
 use Rattle.hs_core.specs.Typing.{HasType}
 use Rattle.hs_core.proofs.ExpansionLemmas.{expanded_full}
 use Rattle.hs_core_laws.specs.Examples.{base_name, exported_value, star_to_star}
-use Rattle.hs_core_laws.specs.Programs.{in_a, hidden_type, shown_by_a, partial, HiddenTypesHaveKinds, NegateIsKnown, FirstExportCounts, NumberingIsFree, MaybeHasKind, PartialSynonymsDoNotExpand}
-use Rattle.hs_core_laws.proofs.Deriving.{simply_has}
-use Rattle.hs_core_laws.proofs.Derivations.{stars}
-use Rattle.hs_core_laws.proofs.Smaller.{int_value, char_value, before_types, passes_before, head_has_occ}
-use Rattle.hs_core_laws.proofs.Bindings.{one_binding, closed_global}
+use Rattle.hs_core_laws.specs.Programs.{in_a, hidden_type, shown_by_a, partial, HiddenTypesHaveKinds, NegateIsKnown}
+use Rattle.hs_core_laws.specs.Programs.{FirstExportCounts, NumberingIsFree, MaybeHasKind, PartialSynonymsDoNotExpand}
+use Rattle.hs_core_laws.proofs.DerivingLemmas.{simply_has}
+use Rattle.hs_core_laws.proofs.DerivationLemmas.{stars}
+use Rattle.hs_core_laws.proofs.SmallerLemmas.{int_value, char_value, before_types, passes_before, head_has_occ}
+use Rattle.hs_core_laws.proofs.BindingLemmas.{one_binding, closed_global}
 use denote.Hole.Carrier.{hidden, roll}
 
 abbrev a_shows : Globals

@@ -1,35 +1,48 @@
 -- A typing stays one where names of types stand for closed types.
-use Rattle.std.proofs.Common.{◌≡◌, refl, sym, ap, ap₂, ◌∙◌, subst, inl, inr, ℕ, zero, suc, Bool, true, false, not, ◌&&◌, ◌||◌, cond, List, [], ◌∷◌, ◌++◌, map, filter}
+use Rattle.std.proofs.Common.{◌≡◌, refl, sym, ap, ap₂, ◌∙◌, subst, inl, inr, ℕ, zero, suc, Bool, true, false, not, ◌&&◌}
+use Rattle.std.proofs.Common.{◌||◌, cond, List, [], ◌∷◌, ◌++◌, map, filter}
 use Rattle.std.proofs.lemmas.List.{map-append}
 use Rattle.std.proofs.Math.Path.{fun_ext}
-use Rattle.bp_base.proofs.Sets.{among-map, among-image}
+use Rattle.bp_base.proofs.SetLemmas.{among-map, among-image}
 use Rattle.bp_base.specs.Texts.{Text}
 use Rattle.bp_base.specs.Lists.{Among, is_among}
 use Rattle.bp_base.specs.declared.special.Special.TheVariants as s
 use Rattle.hs_core.specs.declared.group.IndexGroup.{IndexGroup}
 use Rattle.hs_core.specs.declared.tree.Written.{Written}
 use Rattle.hs_core.specs.declared.tree.Pat.{Pat}
-use Rattle.hs_core.specs.declared.tree.Pat.TheVariants.{PVar, PWild, PInt, PChr, PStr, PCon', PTuple', PList', PAs', PLazy'}
+use Rattle.hs_core.specs.declared.tree.Pat.TheVariants.{PVar, PWild, PInt, PChr, PStr, PCon', PTuple', PList', PAs'}
+use Rattle.hs_core.specs.declared.tree.Pat.TheVariants.{PLazy'}
 use Rattle.hs_core.specs.declared.tree.Pat.TheBlock.{Row_of-Pat, end_of-Pat, more_of-Pat}
 use Rattle.hs_core.specs.declared.tree.Exp.{Exp}
-use Rattle.hs_core.specs.declared.tree.Exp.TheVariants.{Local, Global, Int, Chr, Str, Apply', Lambda', Let', If', Case', Tuple', List' as ListOf', RightSection', Annot'}
+use Rattle.hs_core.specs.declared.tree.Exp.TheVariants.{Local, Global, Int, Chr, Str, Apply', Lambda', Let', If', Case'}
+use Rattle.hs_core.specs.declared.tree.Exp.TheVariants.{Tuple', List' as ListOf', RightSection', Annot'}
 use Rattle.hs_core.specs.declared.tree.Decl.{Decl}
 use Rattle.hs_core.specs.declared.tree.Decl.TheVariants.{DataDecl, SynonymDecl, TypeSig, FixityOf, Clause, PatBind}
 use Rattle.hs_core.specs.declared.tree.Rhs.{Rhs, Rhs'}
 use Rattle.hs_core.specs.declared.tree.Guard.{Guard}
 use Rattle.hs_core.specs.declared.tree.Guard.TheVariants.{Test, Bind}
 use Rattle.hs_core.specs.declared.tree.Alt.{Alt, Alt'}
-use Rattle.hs_core.specs.declared.tree.Decl.TheBlock.{Row_of-Choice, end_of-Choice, more_of-Choice, Row_of-Decl, end_of-Decl, more_of-Decl, Row_of-Guard, end_of-Guard, more_of-Guard, Row_of-Exp, end_of-Exp, more_of-Exp, Row_of-Alt, end_of-Alt, more_of-Alt}
+use Rattle.hs_core.specs.declared.tree.Decl.TheBlock.{Row_of-Choice, end_of-Choice, more_of-Choice, Row_of-Decl}
+use Rattle.hs_core.specs.declared.tree.Decl.TheBlock.{end_of-Decl, more_of-Decl, Row_of-Guard, end_of-Guard}
+use Rattle.hs_core.specs.declared.tree.Decl.TheBlock.{more_of-Guard, Row_of-Exp, end_of-Exp, more_of-Exp, Row_of-Alt}
+use Rattle.hs_core.specs.declared.tree.Decl.TheBlock.{end_of-Alt, more_of-Alt}
 use Rattle.type_terms.specs.Terms.{var, con, app, occurs_in, applied}
-use Rattle.hs_core.specs.Types.{KindTerm, star, arrow, TypeTerm, TypeAssignment, any, character, boolean, function, functions, list_of, tuple_of, special_type, applied_to, count}
+use Rattle.hs_core.specs.Types.{KindTerm, star, arrow, TypeTerm, TypeAssignment, any, character, boolean, function}
+use Rattle.hs_core.specs.Types.{functions, list_of, tuple_of, special_type, applied_to, count}
 use Rattle.hs_core.specs.Kinds.{HasKind}
-use Rattle.hs_core.specs.Schemes.{TypeScheme, IsInstance, IsDeclared, Assumption, Bound, Selects, monotype, monomorphic, free_in, generalised, IsRigid, Agree}
+use Rattle.hs_core.specs.Schemes.{TypeScheme, IsInstance, IsDeclared, Assumption, Bound, Selects, monotype, monomorphic}
+use Rattle.hs_core.specs.Schemes.{free_in, generalised, IsRigid, Agree}
 use Rattle.hs_core.specs.Globals.{Constructor, Globals, plain_names}
 use Rattle.hs_core.specs.WellTyped.{typed_in}
-use Rattle.hs_core_laws.specs.Stability.{Replacement, replaced_names, replaced_scheme, replaced_assumption, replaced_environment, replaced_bound, replaced_constructor, Follows, ExpressionsStayTyped, DeclarationsStayTyped, BindingsStayTyped}
+use Rattle.hs_core_laws.specs.Stability.{Replacement, replaced_names, replaced_scheme, replaced_assumption}
+use Rattle.hs_core_laws.specs.Stability.{replaced_environment, replaced_bound, replaced_constructor, Follows}
+use Rattle.hs_core_laws.specs.Stability.{ExpressionsStayTyped, DeclarationsStayTyped, BindingsStayTyped}
 use Rattle.hs_core.specs.FreeNames.{Signed, LocalDecl, local_decls, all_signed, signed_names}
-use Rattle.hs_core.specs.LocalGroups.{IsTyped, HasScheme, HaveSchemes, names_bound, unsigned, AllAmong, AllTyped, GroupTyping, MeetsSignature, IsGroupTyped, GroupAfterGroup, Extends}
-use Rattle.hs_core.specs.Typing.{Kinds, IsProperType, IsBuilt, AllAre, Binds, BindAll, BindEach, HasType, HaveTypes, HaveAlternatives, IsAlternative, IsRightSide, HaveChoices, GuardsBind, IsGuard, IsTypedDecl, IsTypedAt}
+use Rattle.hs_core.specs.LocalGroups.{IsTyped, HasScheme, HaveSchemes, names_bound, unsigned, AllAmong, AllTyped}
+use Rattle.hs_core.specs.LocalGroups.{GroupTyping, MeetsSignature, IsGroupTyped, GroupAfterGroup, Extends}
+use Rattle.hs_core.specs.Typing.{Kinds, IsProperType, IsBuilt, AllAre, Binds, BindAll, BindEach, HasType, HaveTypes}
+use Rattle.hs_core.specs.Typing.{HaveAlternatives, IsAlternative, IsRightSide, HaveChoices, GuardsBind, IsGuard}
+use Rattle.hs_core.specs.Typing.{IsTypedDecl, IsTypedAt}
 
 -- ---- lists
 map-map : {A B C : Type 0} (g : B → C) (f : A → B) (h : A → C) → ((x : A) → g (f x) ≡ h x) → (xs : List A)
@@ -384,8 +397,14 @@ module _ (r : Replacement) (G : Globals) (H : Globals) (F : Follows r G H) where
         → HasType H any e kinds (replaced_environment r env) (replaced_names r t)
     has (Local x) kinds env t h =
         (proper kinds t h.0, replaced_scheme r h.1, selects env x h.1 h.2, instance kinds h.1 t h.3)
-    has (Global n) kinds env t h =
-        (proper kinds t h.0, replaced_names r h.1, replaced_scheme r h.2, F.values n h.1 h.3, declared h.1 h.2 h.4, instance kinds h.2 t h.5)
+    has (Global n) kinds env t h = (
+      proper kinds t h.0,
+      replaced_names r h.1,
+      replaced_scheme r h.2,
+      F.values n h.1 h.3,
+      declared h.1 h.2 h.4,
+      instance kinds h.2 t h.5,
+    )
     has (Int n) kinds env t h = (proper kinds t h.0, ap (replaced_names r) h.1 ∙ F.integer_stays)
     has (Chr c) kinds env t h = (proper kinds t h.0, ap (replaced_names r) h.1 ∙ F.character_stays)
     has (Str cs) kinds env t h = (proper kinds t h.0, ap (replaced_names r) h.1 ∙ strings)
@@ -453,7 +472,13 @@ module _ (r : Replacement) (G : Globals) (H : Globals) (F : Follows r G H) where
       proper kinds t h.0,
       replaced_scheme r h.1,
       scheme w h.1 h.2,
-      record { inside = h.3.inside; agree = agrees env kinds h.3.inside h.3.agree; type = replaced_names r h.3.type; rigid = rigid h.3.inside env h.1 h.3.type h.3.rigid; has = has e h.3.inside env h.3.type h.3.has },
+      record {
+        inside = h.3.inside;
+        agree = agrees env kinds h.3.inside h.3.agree;
+        type = replaced_names r h.3.type;
+        rigid = rigid h.3.inside env h.1 h.3.type h.3.rigid;
+        has = has e h.3.inside env h.3.type h.3.has;
+      },
       instance kinds h.1 t h.4,
     )
 

@@ -29,7 +29,8 @@ use Rattle.type_terms.specs.Terms.{var, con, app}
 use Rattle.hs_core.specs.Types.{KindTerm, star, arrow, TypeTerm, any, list_of, character}
 use Rattle.hs_core.specs.Schemes.{Assumption, Bound}
 use Rattle.hs_core.specs.Sameness.{same_original}
-use Rattle.hs_core.specs.Globals.{Globals, kinds_of, type_name, value_name, constructor_name, known_names, in_front, no_names, globals_of}
+use Rattle.hs_core.specs.Globals.{Globals, kinds_of, type_name, value_name, constructor_name, known_names, in_front}
+use Rattle.hs_core.specs.Globals.{no_names, globals_of}
 use Rattle.hs_core.specs.Typing.{Kinds, Binds, HasType}
 use Rattle.hs_core.specs.Kinds.{TypeDecl, fields, IsKinding, AreLeastKinds}
 use Rattle.hs_core.specs.Expansion.{Synonyms, Expands}
@@ -179,7 +180,8 @@ exported_value t = record { occ = codes "f"; entity = value_of t; cons = [] }
 abbrev pub base_ty : Text → Ty
 base_ty x = Con (base_name Types x) Star
 
--- `f :: Int` is met by `f :: Int`; by `f :: Char` it is not, since the types differ; nor by `f :: a`, a more general type; where
+-- `f :: Int` is met by `f :: Int`; by `f :: Char` it is not, since the types differ; nor by `f :: a`, a more general
+-- type; where
 -- nothing is exported, it is missing
 abbrev pub ValuesMatch : Type 0
 ValuesMatch = Matches (value_of (base_ty (codes "Int")) ∷ []) (exported_value (base_ty (codes "Int")) ∷ [])
@@ -194,7 +196,13 @@ zero_clause = Clause (codes "g") (PInt false 0 ∷ []) (simply (Int 1))
 
 abbrev pub guarded_clause : Decl
 guarded_clause = Clause (codes "g") (PVar (codes "x") ∷ [])
-    (roll-Rhs (record { choices = record { guards = Bind (PVar (codes "y")) (Local (codes "x")) ∷ []; exp = Local (codes "y") } ∷ []; local = [] }))
+    (roll-Rhs (record {
+      choices = record {
+        guards = Bind (PVar (codes "y")) (Local (codes "x")) ∷ [];
+        exp = Local (codes "y");
+      } ∷ [];
+      local = [];
+    }))
 
 -- it has its declared type: all clauses of a name have one type, and a guard binds in what it guards
 abbrev pub ClausesAreTyped : Type 0

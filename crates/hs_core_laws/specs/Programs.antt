@@ -1,4 +1,5 @@
--- More small programs: names that are not exported, `negate`, local declarations, annotations, a whole module, and which of two
+-- More small programs: names that are not exported, `negate`, local declarations, annotations, a whole module, and
+-- which of two
 -- names counts.
 use Rattle.std.specs.Prelude.{◌≡◌, List, [], ◌∷◌, codes, false, Some, None, if◌then◌else◌}
 use Rattle.bp_base.specs.Texts.{Text}
@@ -18,7 +19,8 @@ use Rattle.type_terms.specs.Terms.{var, con, app}
 use Rattle.hs_core.specs.declared.tree.Written.TheVariants.{WVar, WCon}
 use Rattle.hs_core.specs.declared.tree.Pat.TheVariants.{PVar}
 use Rattle.hs_core.specs.declared.tree.Exp.{Exp}
-use Rattle.hs_core.specs.declared.tree.Exp.TheVariants.{Local, Global, Int, Chr, Apply, Lambda, Let, Tuple, List as ListOf, Annot}
+use Rattle.hs_core.specs.declared.tree.Exp.TheVariants.{Local, Global, Int, Chr, Apply, Lambda, Let, Tuple}
+use Rattle.hs_core.specs.declared.tree.Exp.TheVariants.{List as ListOf, Annot}
 use Rattle.hs_core.specs.declared.tree.Decl.{Decl}
 use Rattle.hs_core.specs.declared.tree.Decl.TheVariants.{TypeSig, Clause}
 use Rattle.hs_core.specs.declared.tree.Decl.TheViews.{roll-Rhs}
@@ -33,7 +35,9 @@ use Rattle.hs_core.specs.Typing.{HasType}
 use Rattle.hs_core.specs.WellTyped.{HasDeclaredTypes, AreWellTyped, bindings_of}
 use Rattle.hs_core.specs.Stubs.{IsWellTypedStub}
 use Rattle.hs_core.specs.Matching.{Matches, IsMismatch}
-use Rattle.hs_core_laws.specs.Examples.{simply, int_written, char_written, function_written, pair_written, is_simply, returns_argument, base_name, base_ty, value_of, exported_value, here_named, maybe, star_to_star, zero_clause, guarded_clause}
+use Rattle.hs_core_laws.specs.Examples.{simply, int_written, char_written, function_written, pair_written, is_simply}
+use Rattle.hs_core_laws.specs.Examples.{returns_argument, base_name, base_ty, value_of, exported_value, here_named}
+use Rattle.hs_core_laws.specs.Examples.{maybe, star_to_star, zero_clause, guarded_clause}
 
 -- ---- names
 
@@ -109,7 +113,8 @@ PartialSynonymsDoNotExpand = (t : TypeTerm)
 abbrev pub itself : Exp
 itself = Lambda (PVar (codes "x") ∷ []) (Local (codes "x"))
 
--- `p :: (Int, Char); p = let { i = \x -> x; k = i } in (i 1, k 'c')`: two groups, the second of which sees the first generalised
+-- `p :: (Int, Char); p = let { i = \x -> x; k = i } in (i 1, k 'c')`: two groups, the second of which sees the first
+-- generalised
 abbrev pub two_bindings : List Decl
 two_bindings = is_simply (codes "i") itself ∷ is_simply (codes "k") (Local (codes "i")) ∷ []
 
@@ -121,7 +126,8 @@ GroupAfterGroupIsTyped = HasDeclaredTypes (globals_of []) any
     (TypeSig (codes "p") (pair_written int_written char_written) ∷ [])
     (is_simply (codes "p") (Let two_bindings uses_of_both) ∷ [])
 
--- `p :: Int; p = let { f :: a -> Int; f x = f [x] } in f 1`: with a type signature a local function may call itself at another type
+-- `p :: Int; p = let { f :: a -> Int; f x = f [x] } in f 1`: with a type signature a local function may call itself at
+-- another type
 abbrev pub calls_itself : List Decl
 calls_itself = TypeSig (codes "f") (function_written (WVar (codes "a")) int_written)
     ∷ Clause (codes "f") (PVar (codes "x") ∷ [])
@@ -172,7 +178,8 @@ abbrev pub ClausesAreOneBinding : Type 0
 ClausesAreOneBinding = bindings_of (zero_clause ∷ guarded_clause ∷ is_simply (codes "x") (Int 1) ∷ [])
     ≡ (zero_clause ∷ guarded_clause ∷ []) ∷ (is_simply (codes "x") (Int 1) ∷ []) ∷ []
 
--- a hole with `data P a` of the kind `(* -> *) -> *`: a stub module keeps the kind that its entry has, though a least one is less
+-- a hole with `data P a` of the kind `(* -> *) -> *`: a stub module keeps the kind that its entry has, though a least
+-- one is less
 abbrev pub of_higher_kind : Entity
 of_higher_kind = DataType (here_named Types (codes "P")) (Arrow (Arrow Star Star) Star) 1 false []
 

@@ -1,4 +1,5 @@
--- The law of typing under replacement of names of types: a typing stays one where names of types stand for closed types of their
+-- The law of typing under replacement of names of types: a typing stays one where names of types stand for closed types
+-- of their
 -- kinds. So what is well typed over a hole's abstract types stays so over what fills the hole.
 use Rattle.std.specs.Prelude.{◌≡◌, ℕ, false, List, map}
 use Rattle.bp_base.specs.Specials.{special_name}
@@ -40,7 +41,8 @@ replaced_bound r b = record { name = b.name; type = replaced_names r b.type }
 abbrev pub replaced_constructor : Replacement → Constructor → Constructor
 replaced_constructor r c = record { fields = map (replaced_names r) c.fields; result = replaced_names r c.result }
 
--- Names of types stand for closed types of their kinds; types with a syntax of their own and those of literals stay; values and
+-- Names of types stand for closed types of their kinds; types with a syntax of their own and those of literals stay;
+-- values and
 -- constructors have the types that this makes of theirs, and written types expand to what it makes of their expansions.
 pub record Follows (r : Replacement) (G H : Globals) : Type 0 where
   pub apart : (n : OrigName) (w : ℕ) → occurs_in w (r n) ≡ false

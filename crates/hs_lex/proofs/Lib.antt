@@ -1,7 +1,7 @@
-pub mod Runs
-pub mod Numbers
-pub mod Levels
-pub mod Capitals
-pub mod Pieces
-pub mod Covers
-pub mod Uniqueness
+pub mod RunLemmas
+pub mod NumberLemmas
+pub mod LevelLemmas
+pub mod CapitalLemmas
+pub mod PieceLemmas
+pub mod CoverLemmas
+pub mod UniquenessLemmas

@@ -14,7 +14,8 @@ is_in c.Digit b = from_to 48 57 b
 is_in c.Octal b = from_to 48 55 b
 is_in c.Hexadecimal b = from_to 48 57 b || (from_to 65 70 b || from_to 97 102 b)
 is_in c.Name b = from_to 97 122 b || (from_to 65 90 b || (from_to 48 57 b || (b == 95 || b == 39)))
-is_in c.Symbol b = b == 33 || (from_to 35 38 b || (from_to 42 43 b || (from_to 45 47 b || (b == 58 || (from_to 60 64 b || (b == 92 || (b == 94 || (b == 124 || b == 126))))))))
+is_in c.Symbol b = b == 33 || (from_to 35 38 b || (from_to 42 43 b ||
+    (from_to 45 47 b || (b == 58 || (from_to 60 64 b || (b == 92 || (b == 94 || (b == 124 || b == 126))))))))
 is_in c.Dash b = b == 45
 is_in c.White b = b == 32 || from_to 9 13 b
 is_in c.Ending b = b == 10 || from_to 12 13 b

@@ -1,5 +1,6 @@
 -- The tokens of a source.
-use Rattle.std.specs.Prelude.{◌≡◌, ℕ, ◌+◌, ◌-◌, ◌*◌, ◌/◌, ◌<◌, min, Bool, true, false, not, ◌&&◌, ◌||◌, ◌==◌, List, [], ◌∷◌, ◌++◌, length, take, drop, Result, Ok, Err, if◌then◌else◌}
+use Rattle.std.specs.Prelude.{◌≡◌, ℕ, ◌+◌, ◌-◌, ◌*◌, ◌/◌, ◌<◌, min, Bool, true, false, not, ◌&&◌, ◌||◌, ◌==◌, List, []}
+use Rattle.std.specs.Prelude.{◌∷◌, ◌++◌, length, take, drop, Result, Ok, Err, if◌then◌else◌}
 use Rattle.std.specs.List.{fold, prefix_len}
 use Rattle.hs_tokens.specs.declared.token.Token.{Token}
 use Rattle.hs_lex.specs.declared.class.Class.TheVariants as c
@@ -38,7 +39,8 @@ abbrev pub are_sound : List Piece → Bool
 are_sound [] = true
 are_sound (p ∷ ps) = is_sound p.kind && are_sound ps
 
--- The column behind a byte: 1 behind the end of a line, the next 8k + 1 behind a tab, the same inside a character, else one more;
+-- The column behind a byte: 1 behind the end of a line, the next 8k + 1 behind a tab, the same inside a character, else
+-- one more;
 -- a column past the greatest u64 is that number.
 abbrev pub next_column : ℕ → ℕ → ℕ
 next_column column b =
@@ -64,13 +66,20 @@ first_behind first k.Broken w = false
 
 -- the token that a piece is, where it is one
 abbrev pub token_of : Kind → List ℕ → ℕ → ℕ → Bool → List Token
-token_of (k.Token kind) w offset column first = record { kind = kind; text = w; offset = offset; column = column; first = first } ∷ []
+token_of (k.Token kind) w offset column first = record {
+  kind = kind;
+  text = w;
+  offset = offset;
+  column = column;
+  first = first;
+} ∷ []
 token_of k.White w offset column first = []
 token_of k.Comment w offset column first = []
 token_of k.LeftOut w offset column first = []
 token_of k.Broken w offset column first = []
 
--- The tokens among the pieces of a text that stands behind the bytes before it: each with the number of bytes before it, the column
+-- The tokens among the pieces of a text that stands behind the bytes before it: each with the number of bytes before
+-- it, the column
 -- behind them, and whether it is the first on its line.
 abbrev pub tokens_of : List ℕ → Bool → List Piece → List ℕ → List Token
 tokens_of before first [] text = []

@@ -1,5 +1,7 @@
--- The spellings of the pieces of a source: what bytes are, before the bytes that follow them (Haskell 2010 Report, chapter 2).
-use Rattle.std.specs.Prelude.{ℕ, zero, suc, Bool, true, false, not, ◌&&◌, ◌==◌, List, [], ◌∷◌, ◌++◌, length, drop, Option, Some, None, option_map, if◌then◌else◌}
+-- The spellings of the pieces of a source: what bytes are, before the bytes that follow them (Haskell 2010 Report,
+-- chapter 2).
+use Rattle.std.specs.Prelude.{ℕ, zero, suc, Bool, true, false, not, ◌&&◌, ◌==◌, List, [], ◌∷◌, ◌++◌, length, drop}
+use Rattle.std.specs.Prelude.{Option, Some, None, option_map, if◌then◌else◌}
 use Rattle.std.specs.List.{prefix_len}
 use Rattle.std.specs.Str.{is_utf8}
 use Rattle.hs_tokens.specs.declared.token.TokenKind.TheVariants as t
@@ -19,29 +21,36 @@ checked w kind = if is_utf8 w then kind else k.Broken
 
 -- The last part of a qualified name: a whole run of its characters, and nothing reserved.
 abbrev pub last_part : Start → List ℕ → List ℕ → List ℕ → Option Kind
-last_part s.Small w bs rest = only ((all (is_in c.Name) bs && not (begins (is_in c.Name) rest)) && is_plain_word w) (k.Token t.Var)
-last_part s.Symbol w bs rest = only ((all (is_in c.Symbol) bs && not (begins (is_in c.Symbol) rest)) && is_plain_symbol w) (operator w)
+last_part s.Small w bs rest = only ((all (is_in c.Name) bs && not (begins (is_in c.Name) rest)) && is_plain_word w)
+    (k.Token t.Var)
+last_part s.Symbol w bs rest = only ((all (is_in c.Symbol) bs && not (begins (is_in c.Symbol) rest))
+    && is_plain_symbol w) (operator w)
 last_part _ w bs rest = None
 
--- Behind the first letter of a name that begins with a capital: the rest of a constructor's or a module's name, and behind a dot
+-- Behind the first letter of a name that begins with a capital: the rest of a constructor's or a module's name, and
+-- behind a dot
 -- (`dotted`) one more such part or the last one.
 abbrev pub capital : Bool → List ℕ → List ℕ → Option Kind
 capital false [] rest = Some (k.Token t.Con)
 capital true [] rest = None
-capital false (b ∷ bs) rest = if is_in c.Name b then capital false bs rest else (if b == 46 then capital true bs rest else None)
+capital false (b ∷ bs) rest = if is_in c.Name b then capital false bs rest else
+    (if b == 46 then capital true bs rest else None)
 capital true (b ∷ bs) rest = if from_to 65 90 b then capital false bs rest else last_part (start_of b) (b ∷ bs) bs rest
 
 -- two dashes or more that no symbol character follows
 abbrev pub is_dashed : ℕ → List ℕ → Bool
-is_dashed b text = (b == 45 && begins (is_in c.Dash) text) && not (begins (is_in c.Symbol) (drop (prefix_len (is_in c.Dash) text) text))
+is_dashed b text = (b == 45 && begins (is_in c.Dash) text) && not
+    (begins (is_in c.Symbol) (drop (prefix_len (is_in c.Dash) text) text))
 
 -- a comment to the end of the line, or a symbol
 abbrev pub symbolic : ℕ → List ℕ → List ℕ → Option Kind
 symbolic b bs rest =
-    if is_dashed b (bs ++ rest) then only (length bs == prefix_len (is_in c.Line) (bs ++ rest)) (checked (b ∷ bs) k.Comment)
+    if is_dashed b (bs ++ rest) then only (length bs == prefix_len (is_in c.Line) (bs ++ rest))
+    (checked (b ∷ bs) k.Comment)
     else only (all (is_in c.Symbol) bs) (symbol_kind (b ∷ bs))
 
--- The length of a nested comment behind its `{-`, where so many comments are open: up to and with the `-}` that closes the first.
+-- The length of a nested comment behind its `{-`, where so many comments are open: up to and with the `-}` that closes
+-- the first.
 abbrev pub nested_len : ℕ → List ℕ → Option ℕ
 nested_len zero bs = Some 0
 nested_len (suc d) [] = None
@@ -62,7 +71,8 @@ commented (Some n) b bs rest = only (length bs == n) (checked (b ∷ bs) k.Comme
 -- a `{`, or a nested comment
 abbrev pub braced : ℕ → List ℕ → List ℕ → Option Kind
 braced b bs rest =
-    if begins (is_in c.Dash) (bs ++ rest) then commented (comment_len (bs ++ rest)) b bs rest else only (is_empty bs) (k.Token t.Special)
+    if begins (is_in c.Dash) (bs ++ rest) then commented (comment_len (bs ++ rest)) b bs rest else only (is_empty bs)
+    (k.Token t.Special)
 
 -- a literal that ends, or its quote alone
 abbrev pub quoted : Option ℕ → Kind → ℕ → List ℕ → Option Kind

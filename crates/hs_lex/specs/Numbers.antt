@@ -1,5 +1,6 @@
 -- Numbers (Haskell 2010 Report, section 2.5).
-use Rattle.std.specs.Prelude.{ℕ, ◌+◌, ◌-◌, ◌*◌, Bool, true, false, not, ◌&&◌, ◌||◌, ◌==◌, nat_le, List, [], ◌∷◌, drop, Option, Some, None, if◌then◌else◌}
+use Rattle.std.specs.Prelude.{ℕ, ◌+◌, ◌-◌, ◌*◌, Bool, true, false, not, ◌&&◌, ◌||◌, ◌==◌, nat_le, List, [], ◌∷◌, drop}
+use Rattle.std.specs.Prelude.{Option, Some, None, if◌then◌else◌}
 use Rattle.std.specs.List.{fold}
 use Rattle.hs_tokens.specs.declared.token.TokenKind.TheVariants as t
 use Rattle.hs_lex.specs.declared.class.Class.TheVariants as c
@@ -47,18 +48,21 @@ is_sign b = b == 43 || b == 45
 -- behind the letter of an exponent
 abbrev pub exponent : List ℕ → Option Form
 exponent [] = None
-exponent (b ∷ bs) = if is_sign b then run_as (is_in c.Digit) f.Floating bs else run_as (is_in c.Digit) f.Floating (b ∷ bs)
+exponent (b ∷ bs) = if is_sign b then run_as (is_in c.Digit) f.Floating bs else run_as (is_in c.Digit) f.Floating
+    (b ∷ bs)
 
 -- behind the dot of a number; whether a digit stands behind it already
 abbrev pub fraction : Bool → List ℕ → Option Form
 fraction false [] = None
 fraction true [] = Some f.Floating
-fraction some (b ∷ bs) = if is_in c.Digit b then fraction true bs else (if some && is_exponent_letter b then exponent bs else None)
+fraction some (b ∷ bs) = if is_in c.Digit b then fraction true bs else
+    (if some && is_exponent_letter b then exponent bs else None)
 
 -- behind a digit of a decimal number
 abbrev pub decimal : List ℕ → Option Form
 decimal [] = Some f.Decimal
-decimal (b ∷ bs) = if is_in c.Digit b then decimal bs else (if b == 46 then fraction false bs else (if is_exponent_letter b then exponent bs else None))
+decimal (b ∷ bs) = if is_in c.Digit b then decimal bs else
+    (if b == 46 then fraction false bs else (if is_exponent_letter b then exponent bs else None))
 
 -- behind a first 0
 abbrev pub behind_zero : List ℕ → Option Form

@@ -25,7 +25,8 @@ pub record IsMore (bs : List ℕ) (n : ℕ) : Type 0 where
   pub within : n ≤ length bs
   pub some : 0 < n
   pub whole : begins (is_in c.Name) (drop n bs) ≡ false
-  pub joins : (kind : Kind) (m : ℕ) → Longest (capital false) (drop n bs) kind m → Longest (capital false) bs kind (n + m)
+  pub joins : (kind : Kind) (m : ℕ) → Longest (capital false) (drop n bs) kind m
+      → Longest (capital false) bs kind (n + m)
 
 abbrev pub IsPart : List ℕ → Part → Type 0
 IsPart bs p.End = Longest (capital false) bs (k.Token t.Con) 0

@@ -1,5 +1,6 @@
 -- Words and symbols, reserved and left out (Haskell 2010 Report, section 2.4).
-use Rattle.std.specs.Prelude.{ℕ, Bool, false, not, ◌&&◌, ◌||◌, ◌==◌, nat_lt, List, length, Option, Some, None, if◌then◌else◌}
+use Rattle.std.specs.Prelude.{ℕ, Bool, false, not, ◌&&◌, ◌||◌, ◌==◌, nat_lt, List, length, Option, Some, None}
+use Rattle.std.specs.Prelude.{if◌then◌else◌}
 use Rattle.std.specs.List.{prefix_len}
 use Rattle.hs_tokens.specs.declared.word.Word.{Word}
 use Rattle.hs_tokens.specs.Words.{word_of, is_left_out}
@@ -21,7 +22,8 @@ begins_left_out (Some word) = is_left_out word
 
 -- what a word that begins with a small letter is
 abbrev pub word_kind : List ℕ → Kind
-word_kind w = if begins_left_out (word_of w) then k.LeftOut else (if is_reserved w then k.Token t.Reserved else k.Token t.Var)
+word_kind w = if begins_left_out (word_of w) then k.LeftOut else
+    (if is_reserved w then k.Token t.Reserved else k.Token t.Var)
 
 -- a symbol that is not reserved, by its first character
 abbrev pub operator : List ℕ → Kind

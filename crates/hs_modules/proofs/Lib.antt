@@ -1,7 +1,7 @@
-pub mod ExpressionMeasures
-pub mod Folding
-pub mod Measuring
-pub mod ModuleMeasures
-pub mod PartDepths
-pub mod PatternMeasures
-pub mod TypeMeasures
+pub mod ExpressionMeasureLemmas
+pub mod FoldingLemmas
+pub mod MeasuringLemmas
+pub mod ModuleMeasureLemmas
+pub mod PartDepthLemmas
+pub mod PatternMeasureLemmas
+pub mod TypeMeasureLemmas

@@ -1,5 +1,7 @@
--- How large and how deep trees of expressions and declarations are. Names, literals and operators are no nodes and have no depth; a `gcon` is a node. Brackets, tuples,
--- lists, sections, lambda, `let`, `if`, `case`, a `where` block and an annotation make their parts deeper by 1, and a chain by the number of its operators and signs.
+-- How large and how deep trees of expressions and declarations are. Names, literals and operators are no nodes and have
+-- no depth; a `gcon` is a node. Brackets, tuples,
+-- lists, sections, lambda, `let`, `if`, `case`, a `where` block and an annotation make their parts deeper by 1, and a
+-- chain by the number of its operators and signs.
 use Rattle.std.specs.Prelude.{ℕ, ◌+◌, Bool, true, false, map, sum}
 use Rattle.hs_modules.specs.Extents.{Extent, nothing, leaf, beside, all_beside, node, deeper}
 use Rattle.hs_modules.specs.PartExtents.{extent_of_type, extent_of_apat, extent_of_pat, extent_of_fun_lhs}
@@ -26,7 +28,13 @@ use Rattle.hs_modules.specs.declared.expressions.LetTree.{LetTree}
 use Rattle.hs_modules.specs.declared.expressions.OpOperand.{OpOperand}
 use Rattle.hs_modules.specs.declared.expressions.RhsTree.{RhsTree}
 use Rattle.hs_modules.specs.declared.expressions.SignedOperand.{SignedOperand}
-use Rattle.hs_modules.specs.Folds.{Algebra, AExpTreeLayer, AltBodyLayer, AltSlotLayer, DeclSlotLayer, DeclTreeLayer, ExpTreeLayer, GuardTreeLayer, LocalsLayer, OperandTreeLayer, RhsBodyLayer, folded_aexp, folded_alt_body, folded_alt_slot, folded_decl_slot, folded_decl, folded_exp, folded_guard, folded_locals, folded_operand, folded_rhs_body, folded_alt_block, folded_alt, folded_case, folded_decl_block, folded_gd, folded_gda, folded_if, folded_infix, folded_lambda, folded_let, folded_link, folded_rhs, folded_signed}
+use Rattle.hs_modules.specs.Folds.{Algebra, AExpTreeLayer, AltBodyLayer, AltSlotLayer, DeclSlotLayer, DeclTreeLayer}
+use Rattle.hs_modules.specs.Folds.{ExpTreeLayer, GuardTreeLayer, LocalsLayer, OperandTreeLayer, RhsBodyLayer}
+use Rattle.hs_modules.specs.Folds.{folded_aexp, folded_alt_body, folded_alt_slot, folded_decl_slot, folded_decl}
+use Rattle.hs_modules.specs.Folds.{folded_exp, folded_guard, folded_locals, folded_operand, folded_rhs_body}
+use Rattle.hs_modules.specs.Folds.{folded_alt_block, folded_alt, folded_case, folded_decl_block, folded_gd, folded_gda}
+use Rattle.hs_modules.specs.Folds.{folded_if, folded_infix, folded_lambda, folded_let, folded_link, folded_rhs}
+use Rattle.hs_modules.specs.Folds.{folded_signed}
 
 -- A sign is one of the operators of its chain.
 abbrev pub sign : Bool → ℕ
@@ -103,8 +111,10 @@ extent_algebra = record {
   of_gd = λ g. node (beside (beside g.first (all_beside g.rest)) g.exp);
   of_gda = λ g. node (beside (beside g.first (all_beside g.rest)) g.exp);
   of_if = λ i. deeper 1 (node (beside (beside i.test i.then_part) i.else_part));
-  of_infix = λ x. deeper (x.first.0 + sum (map (λ o. o.0) x.rest)) (node (beside x.first.1 (all_beside (map (λ o. o.1) x.rest))));
-  of_lambda = λ l. deeper 1 (node (beside (beside (extent_of_apat l.first) (all_beside (map extent_of_apat l.rest))) l.body));
+  of_infix = λ x. deeper (x.first.0 + sum (map (λ o. o.0) x.rest))
+      (node (beside x.first.1 (all_beside (map (λ o. o.1) x.rest))));
+  of_lambda = λ l. deeper 1 (node (beside (beside (extent_of_apat l.first) (all_beside (map extent_of_apat l.rest)))
+      l.body));
   of_let = λ l. deeper 1 (node (beside l.decls l.body));
   of_link = λ o. (1 + o.operand.0, o.operand.1);
   of_rhs = λ r. node (beside r.body r.locals);

@@ -1,4 +1,5 @@
--- How large and how deep trees are: the steps by which the extent of a tree is made from those of its parts. The size is the number of
+-- How large and how deep trees are: the steps by which the extent of a tree is made from those of its parts. The size
+-- is the number of
 -- nodes, one for each production of the grammar. Brackets, blocks and operators make a tree deeper.
 use Rattle.std.specs.Prelude.{ℕ, ◌+◌, max, List, map, sum}
 use Rattle.hs_forms.specs.Limits.{deepest}

@@ -1,4 +1,5 @@
--- Folds over the trees of expressions and declarations, which lead back to one another: one value for each tree, made from those of its parts.
+-- Folds over the trees of expressions and declarations, which lead back to one another: one value for each tree, made
+-- from those of its parts.
 use Rattle.hs_modules.specs.declared.expressions.AExpTree.{AExpTree, AExpTree-F, fold-AExpTree}
 use Rattle.hs_modules.specs.declared.expressions.AltBody.{AltBody, AltBody-F, fold-AltBody}
 use Rattle.hs_modules.specs.declared.expressions.AltSlot.{AltSlot, AltSlot-F, fold-AltSlot}
@@ -92,7 +93,8 @@ RhsTreeLayer A L = RhsTree-F A A A A A A A A A A A A A A A A A A A A L A L
 abbrev pub SignedOperandLayer : Type 0 → Type 0 → Type 0
 SignedOperandLayer A L = SignedOperand-F A A A A A A A A A A A A A A A A A A A A L A L
 
--- What each production makes of the values of its parts; links of a chain, which are an operand with its sign or with its operator, have values of their own.
+-- What each production makes of the values of its parts; links of a chain, which are an operand with its sign or with
+-- its operator, have values of their own.
 pub record Algebra (A L : Type 0) : Type 0 where
   pub of_aexp : AExpTreeLayer A L → A
   pub of_alt_body : AltBodyLayer A L → A
@@ -119,70 +121,132 @@ pub record Algebra (A L : Type 0) : Type 0 where
   pub of_signed : SignedOperandLayer A L → L
 
 unfoldable pub folded_aexp : {A L : Type 0} → Algebra A L → AExpTree → A
-folded_aexp {A} {L} a = fold-AExpTree A A A A A A A A A A A A A A A A A A A A L A L a.of_aexp a.of_alt_body a.of_alt_slot a.of_decl_slot a.of_decl a.of_exp a.of_guard a.of_locals a.of_operand a.of_rhs_body a.of_alt_block a.of_alt a.of_case a.of_decl_block a.of_gd a.of_gda a.of_if a.of_infix a.of_lambda a.of_let a.of_link a.of_rhs a.of_signed
+folded_aexp {A} {L} a = fold-AExpTree A A A A A A A A A A A A A A A A A A A A L A L a.of_aexp a.of_alt_body
+    a.of_alt_slot a.of_decl_slot a.of_decl a.of_exp a.of_guard a.of_locals a.of_operand a.of_rhs_body a.of_alt_block
+    a.of_alt a.of_case a.of_decl_block a.of_gd a.of_gda a.of_if a.of_infix a.of_lambda a.of_let a.of_link a.of_rhs
+    a.of_signed
 
 unfoldable pub folded_alt_body : {A L : Type 0} → Algebra A L → AltBody → A
-folded_alt_body {A} {L} a = fold-AltBody A A A A A A A A A A A A A A A A A A A A L A L a.of_aexp a.of_alt_body a.of_alt_slot a.of_decl_slot a.of_decl a.of_exp a.of_guard a.of_locals a.of_operand a.of_rhs_body a.of_alt_block a.of_alt a.of_case a.of_decl_block a.of_gd a.of_gda a.of_if a.of_infix a.of_lambda a.of_let a.of_link a.of_rhs a.of_signed
+folded_alt_body {A} {L} a = fold-AltBody A A A A A A A A A A A A A A A A A A A A L A L a.of_aexp a.of_alt_body
+    a.of_alt_slot a.of_decl_slot a.of_decl a.of_exp a.of_guard a.of_locals a.of_operand a.of_rhs_body a.of_alt_block
+    a.of_alt a.of_case a.of_decl_block a.of_gd a.of_gda a.of_if a.of_infix a.of_lambda a.of_let a.of_link a.of_rhs
+    a.of_signed
 
 unfoldable pub folded_alt_slot : {A L : Type 0} → Algebra A L → AltSlot → A
-folded_alt_slot {A} {L} a = fold-AltSlot A A A A A A A A A A A A A A A A A A A A L A L a.of_aexp a.of_alt_body a.of_alt_slot a.of_decl_slot a.of_decl a.of_exp a.of_guard a.of_locals a.of_operand a.of_rhs_body a.of_alt_block a.of_alt a.of_case a.of_decl_block a.of_gd a.of_gda a.of_if a.of_infix a.of_lambda a.of_let a.of_link a.of_rhs a.of_signed
+folded_alt_slot {A} {L} a = fold-AltSlot A A A A A A A A A A A A A A A A A A A A L A L a.of_aexp a.of_alt_body
+    a.of_alt_slot a.of_decl_slot a.of_decl a.of_exp a.of_guard a.of_locals a.of_operand a.of_rhs_body a.of_alt_block
+    a.of_alt a.of_case a.of_decl_block a.of_gd a.of_gda a.of_if a.of_infix a.of_lambda a.of_let a.of_link a.of_rhs
+    a.of_signed
 
 unfoldable pub folded_decl_slot : {A L : Type 0} → Algebra A L → DeclSlot → A
-folded_decl_slot {A} {L} a = fold-DeclSlot A A A A A A A A A A A A A A A A A A A A L A L a.of_aexp a.of_alt_body a.of_alt_slot a.of_decl_slot a.of_decl a.of_exp a.of_guard a.of_locals a.of_operand a.of_rhs_body a.of_alt_block a.of_alt a.of_case a.of_decl_block a.of_gd a.of_gda a.of_if a.of_infix a.of_lambda a.of_let a.of_link a.of_rhs a.of_signed
+folded_decl_slot {A} {L} a = fold-DeclSlot A A A A A A A A A A A A A A A A A A A A L A L a.of_aexp a.of_alt_body
+    a.of_alt_slot a.of_decl_slot a.of_decl a.of_exp a.of_guard a.of_locals a.of_operand a.of_rhs_body a.of_alt_block
+    a.of_alt a.of_case a.of_decl_block a.of_gd a.of_gda a.of_if a.of_infix a.of_lambda a.of_let a.of_link a.of_rhs
+    a.of_signed
 
 unfoldable pub folded_decl : {A L : Type 0} → Algebra A L → DeclTree → A
-folded_decl {A} {L} a = fold-DeclTree A A A A A A A A A A A A A A A A A A A A L A L a.of_aexp a.of_alt_body a.of_alt_slot a.of_decl_slot a.of_decl a.of_exp a.of_guard a.of_locals a.of_operand a.of_rhs_body a.of_alt_block a.of_alt a.of_case a.of_decl_block a.of_gd a.of_gda a.of_if a.of_infix a.of_lambda a.of_let a.of_link a.of_rhs a.of_signed
+folded_decl {A} {L} a = fold-DeclTree A A A A A A A A A A A A A A A A A A A A L A L a.of_aexp a.of_alt_body
+    a.of_alt_slot a.of_decl_slot a.of_decl a.of_exp a.of_guard a.of_locals a.of_operand a.of_rhs_body a.of_alt_block
+    a.of_alt a.of_case a.of_decl_block a.of_gd a.of_gda a.of_if a.of_infix a.of_lambda a.of_let a.of_link a.of_rhs
+    a.of_signed
 
 unfoldable pub folded_exp : {A L : Type 0} → Algebra A L → ExpTree → A
-folded_exp {A} {L} a = fold-ExpTree A A A A A A A A A A A A A A A A A A A A L A L a.of_aexp a.of_alt_body a.of_alt_slot a.of_decl_slot a.of_decl a.of_exp a.of_guard a.of_locals a.of_operand a.of_rhs_body a.of_alt_block a.of_alt a.of_case a.of_decl_block a.of_gd a.of_gda a.of_if a.of_infix a.of_lambda a.of_let a.of_link a.of_rhs a.of_signed
+folded_exp {A} {L} a = fold-ExpTree A A A A A A A A A A A A A A A A A A A A L A L a.of_aexp a.of_alt_body a.of_alt_slot
+    a.of_decl_slot a.of_decl a.of_exp a.of_guard a.of_locals a.of_operand a.of_rhs_body a.of_alt_block a.of_alt
+    a.of_case a.of_decl_block a.of_gd a.of_gda a.of_if a.of_infix a.of_lambda a.of_let a.of_link a.of_rhs a.of_signed
 
 unfoldable pub folded_guard : {A L : Type 0} → Algebra A L → GuardTree → A
-folded_guard {A} {L} a = fold-GuardTree A A A A A A A A A A A A A A A A A A A A L A L a.of_aexp a.of_alt_body a.of_alt_slot a.of_decl_slot a.of_decl a.of_exp a.of_guard a.of_locals a.of_operand a.of_rhs_body a.of_alt_block a.of_alt a.of_case a.of_decl_block a.of_gd a.of_gda a.of_if a.of_infix a.of_lambda a.of_let a.of_link a.of_rhs a.of_signed
+folded_guard {A} {L} a = fold-GuardTree A A A A A A A A A A A A A A A A A A A A L A L a.of_aexp a.of_alt_body
+    a.of_alt_slot a.of_decl_slot a.of_decl a.of_exp a.of_guard a.of_locals a.of_operand a.of_rhs_body a.of_alt_block
+    a.of_alt a.of_case a.of_decl_block a.of_gd a.of_gda a.of_if a.of_infix a.of_lambda a.of_let a.of_link a.of_rhs
+    a.of_signed
 
 unfoldable pub folded_locals : {A L : Type 0} → Algebra A L → Locals → A
-folded_locals {A} {L} a = fold-Locals A A A A A A A A A A A A A A A A A A A A L A L a.of_aexp a.of_alt_body a.of_alt_slot a.of_decl_slot a.of_decl a.of_exp a.of_guard a.of_locals a.of_operand a.of_rhs_body a.of_alt_block a.of_alt a.of_case a.of_decl_block a.of_gd a.of_gda a.of_if a.of_infix a.of_lambda a.of_let a.of_link a.of_rhs a.of_signed
+folded_locals {A} {L} a = fold-Locals A A A A A A A A A A A A A A A A A A A A L A L a.of_aexp a.of_alt_body
+    a.of_alt_slot a.of_decl_slot a.of_decl a.of_exp a.of_guard a.of_locals a.of_operand a.of_rhs_body a.of_alt_block
+    a.of_alt a.of_case a.of_decl_block a.of_gd a.of_gda a.of_if a.of_infix a.of_lambda a.of_let a.of_link a.of_rhs
+    a.of_signed
 
 unfoldable pub folded_operand : {A L : Type 0} → Algebra A L → OperandTree → A
-folded_operand {A} {L} a = fold-OperandTree A A A A A A A A A A A A A A A A A A A A L A L a.of_aexp a.of_alt_body a.of_alt_slot a.of_decl_slot a.of_decl a.of_exp a.of_guard a.of_locals a.of_operand a.of_rhs_body a.of_alt_block a.of_alt a.of_case a.of_decl_block a.of_gd a.of_gda a.of_if a.of_infix a.of_lambda a.of_let a.of_link a.of_rhs a.of_signed
+folded_operand {A} {L} a = fold-OperandTree A A A A A A A A A A A A A A A A A A A A L A L a.of_aexp a.of_alt_body
+    a.of_alt_slot a.of_decl_slot a.of_decl a.of_exp a.of_guard a.of_locals a.of_operand a.of_rhs_body a.of_alt_block
+    a.of_alt a.of_case a.of_decl_block a.of_gd a.of_gda a.of_if a.of_infix a.of_lambda a.of_let a.of_link a.of_rhs
+    a.of_signed
 
 unfoldable pub folded_rhs_body : {A L : Type 0} → Algebra A L → RhsBody → A
-folded_rhs_body {A} {L} a = fold-RhsBody A A A A A A A A A A A A A A A A A A A A L A L a.of_aexp a.of_alt_body a.of_alt_slot a.of_decl_slot a.of_decl a.of_exp a.of_guard a.of_locals a.of_operand a.of_rhs_body a.of_alt_block a.of_alt a.of_case a.of_decl_block a.of_gd a.of_gda a.of_if a.of_infix a.of_lambda a.of_let a.of_link a.of_rhs a.of_signed
+folded_rhs_body {A} {L} a = fold-RhsBody A A A A A A A A A A A A A A A A A A A A L A L a.of_aexp a.of_alt_body
+    a.of_alt_slot a.of_decl_slot a.of_decl a.of_exp a.of_guard a.of_locals a.of_operand a.of_rhs_body a.of_alt_block
+    a.of_alt a.of_case a.of_decl_block a.of_gd a.of_gda a.of_if a.of_infix a.of_lambda a.of_let a.of_link a.of_rhs
+    a.of_signed
 
 unfoldable pub folded_alt_block : {A L : Type 0} → Algebra A L → AltBlock → A
-folded_alt_block {A} {L} a = fold-AltBlock A A A A A A A A A A A A A A A A A A A A L A L a.of_aexp a.of_alt_body a.of_alt_slot a.of_decl_slot a.of_decl a.of_exp a.of_guard a.of_locals a.of_operand a.of_rhs_body a.of_alt_block a.of_alt a.of_case a.of_decl_block a.of_gd a.of_gda a.of_if a.of_infix a.of_lambda a.of_let a.of_link a.of_rhs a.of_signed
+folded_alt_block {A} {L} a = fold-AltBlock A A A A A A A A A A A A A A A A A A A A L A L a.of_aexp a.of_alt_body
+    a.of_alt_slot a.of_decl_slot a.of_decl a.of_exp a.of_guard a.of_locals a.of_operand a.of_rhs_body a.of_alt_block
+    a.of_alt a.of_case a.of_decl_block a.of_gd a.of_gda a.of_if a.of_infix a.of_lambda a.of_let a.of_link a.of_rhs
+    a.of_signed
 
 unfoldable pub folded_alt : {A L : Type 0} → Algebra A L → AltTree → A
-folded_alt {A} {L} a = fold-AltTree A A A A A A A A A A A A A A A A A A A A L A L a.of_aexp a.of_alt_body a.of_alt_slot a.of_decl_slot a.of_decl a.of_exp a.of_guard a.of_locals a.of_operand a.of_rhs_body a.of_alt_block a.of_alt a.of_case a.of_decl_block a.of_gd a.of_gda a.of_if a.of_infix a.of_lambda a.of_let a.of_link a.of_rhs a.of_signed
+folded_alt {A} {L} a = fold-AltTree A A A A A A A A A A A A A A A A A A A A L A L a.of_aexp a.of_alt_body a.of_alt_slot
+    a.of_decl_slot a.of_decl a.of_exp a.of_guard a.of_locals a.of_operand a.of_rhs_body a.of_alt_block a.of_alt
+    a.of_case a.of_decl_block a.of_gd a.of_gda a.of_if a.of_infix a.of_lambda a.of_let a.of_link a.of_rhs a.of_signed
 
 unfoldable pub folded_case : {A L : Type 0} → Algebra A L → CaseTree → A
-folded_case {A} {L} a = fold-CaseTree A A A A A A A A A A A A A A A A A A A A L A L a.of_aexp a.of_alt_body a.of_alt_slot a.of_decl_slot a.of_decl a.of_exp a.of_guard a.of_locals a.of_operand a.of_rhs_body a.of_alt_block a.of_alt a.of_case a.of_decl_block a.of_gd a.of_gda a.of_if a.of_infix a.of_lambda a.of_let a.of_link a.of_rhs a.of_signed
+folded_case {A} {L} a = fold-CaseTree A A A A A A A A A A A A A A A A A A A A L A L a.of_aexp a.of_alt_body
+    a.of_alt_slot a.of_decl_slot a.of_decl a.of_exp a.of_guard a.of_locals a.of_operand a.of_rhs_body a.of_alt_block
+    a.of_alt a.of_case a.of_decl_block a.of_gd a.of_gda a.of_if a.of_infix a.of_lambda a.of_let a.of_link a.of_rhs
+    a.of_signed
 
 unfoldable pub folded_decl_block : {A L : Type 0} → Algebra A L → DeclBlock → A
-folded_decl_block {A} {L} a = fold-DeclBlock A A A A A A A A A A A A A A A A A A A A L A L a.of_aexp a.of_alt_body a.of_alt_slot a.of_decl_slot a.of_decl a.of_exp a.of_guard a.of_locals a.of_operand a.of_rhs_body a.of_alt_block a.of_alt a.of_case a.of_decl_block a.of_gd a.of_gda a.of_if a.of_infix a.of_lambda a.of_let a.of_link a.of_rhs a.of_signed
+folded_decl_block {A} {L} a = fold-DeclBlock A A A A A A A A A A A A A A A A A A A A L A L a.of_aexp a.of_alt_body
+    a.of_alt_slot a.of_decl_slot a.of_decl a.of_exp a.of_guard a.of_locals a.of_operand a.of_rhs_body a.of_alt_block
+    a.of_alt a.of_case a.of_decl_block a.of_gd a.of_gda a.of_if a.of_infix a.of_lambda a.of_let a.of_link a.of_rhs
+    a.of_signed
 
 unfoldable pub folded_gd : {A L : Type 0} → Algebra A L → GdTree → A
-folded_gd {A} {L} a = fold-GdTree A A A A A A A A A A A A A A A A A A A A L A L a.of_aexp a.of_alt_body a.of_alt_slot a.of_decl_slot a.of_decl a.of_exp a.of_guard a.of_locals a.of_operand a.of_rhs_body a.of_alt_block a.of_alt a.of_case a.of_decl_block a.of_gd a.of_gda a.of_if a.of_infix a.of_lambda a.of_let a.of_link a.of_rhs a.of_signed
+folded_gd {A} {L} a = fold-GdTree A A A A A A A A A A A A A A A A A A A A L A L a.of_aexp a.of_alt_body a.of_alt_slot
+    a.of_decl_slot a.of_decl a.of_exp a.of_guard a.of_locals a.of_operand a.of_rhs_body a.of_alt_block a.of_alt
+    a.of_case a.of_decl_block a.of_gd a.of_gda a.of_if a.of_infix a.of_lambda a.of_let a.of_link a.of_rhs a.of_signed
 
 unfoldable pub folded_gda : {A L : Type 0} → Algebra A L → GdaTree → A
-folded_gda {A} {L} a = fold-GdaTree A A A A A A A A A A A A A A A A A A A A L A L a.of_aexp a.of_alt_body a.of_alt_slot a.of_decl_slot a.of_decl a.of_exp a.of_guard a.of_locals a.of_operand a.of_rhs_body a.of_alt_block a.of_alt a.of_case a.of_decl_block a.of_gd a.of_gda a.of_if a.of_infix a.of_lambda a.of_let a.of_link a.of_rhs a.of_signed
+folded_gda {A} {L} a = fold-GdaTree A A A A A A A A A A A A A A A A A A A A L A L a.of_aexp a.of_alt_body a.of_alt_slot
+    a.of_decl_slot a.of_decl a.of_exp a.of_guard a.of_locals a.of_operand a.of_rhs_body a.of_alt_block a.of_alt
+    a.of_case a.of_decl_block a.of_gd a.of_gda a.of_if a.of_infix a.of_lambda a.of_let a.of_link a.of_rhs a.of_signed
 
 unfoldable pub folded_if : {A L : Type 0} → Algebra A L → IfTree → A
-folded_if {A} {L} a = fold-IfTree A A A A A A A A A A A A A A A A A A A A L A L a.of_aexp a.of_alt_body a.of_alt_slot a.of_decl_slot a.of_decl a.of_exp a.of_guard a.of_locals a.of_operand a.of_rhs_body a.of_alt_block a.of_alt a.of_case a.of_decl_block a.of_gd a.of_gda a.of_if a.of_infix a.of_lambda a.of_let a.of_link a.of_rhs a.of_signed
+folded_if {A} {L} a = fold-IfTree A A A A A A A A A A A A A A A A A A A A L A L a.of_aexp a.of_alt_body a.of_alt_slot
+    a.of_decl_slot a.of_decl a.of_exp a.of_guard a.of_locals a.of_operand a.of_rhs_body a.of_alt_block a.of_alt
+    a.of_case a.of_decl_block a.of_gd a.of_gda a.of_if a.of_infix a.of_lambda a.of_let a.of_link a.of_rhs a.of_signed
 
 unfoldable pub folded_infix : {A L : Type 0} → Algebra A L → InfixTree → A
-folded_infix {A} {L} a = fold-InfixTree A A A A A A A A A A A A A A A A A A A A L A L a.of_aexp a.of_alt_body a.of_alt_slot a.of_decl_slot a.of_decl a.of_exp a.of_guard a.of_locals a.of_operand a.of_rhs_body a.of_alt_block a.of_alt a.of_case a.of_decl_block a.of_gd a.of_gda a.of_if a.of_infix a.of_lambda a.of_let a.of_link a.of_rhs a.of_signed
+folded_infix {A} {L} a = fold-InfixTree A A A A A A A A A A A A A A A A A A A A L A L a.of_aexp a.of_alt_body
+    a.of_alt_slot a.of_decl_slot a.of_decl a.of_exp a.of_guard a.of_locals a.of_operand a.of_rhs_body a.of_alt_block
+    a.of_alt a.of_case a.of_decl_block a.of_gd a.of_gda a.of_if a.of_infix a.of_lambda a.of_let a.of_link a.of_rhs
+    a.of_signed
 
 unfoldable pub folded_lambda : {A L : Type 0} → Algebra A L → LambdaTree → A
-folded_lambda {A} {L} a = fold-LambdaTree A A A A A A A A A A A A A A A A A A A A L A L a.of_aexp a.of_alt_body a.of_alt_slot a.of_decl_slot a.of_decl a.of_exp a.of_guard a.of_locals a.of_operand a.of_rhs_body a.of_alt_block a.of_alt a.of_case a.of_decl_block a.of_gd a.of_gda a.of_if a.of_infix a.of_lambda a.of_let a.of_link a.of_rhs a.of_signed
+folded_lambda {A} {L} a = fold-LambdaTree A A A A A A A A A A A A A A A A A A A A L A L a.of_aexp a.of_alt_body
+    a.of_alt_slot a.of_decl_slot a.of_decl a.of_exp a.of_guard a.of_locals a.of_operand a.of_rhs_body a.of_alt_block
+    a.of_alt a.of_case a.of_decl_block a.of_gd a.of_gda a.of_if a.of_infix a.of_lambda a.of_let a.of_link a.of_rhs
+    a.of_signed
 
 unfoldable pub folded_let : {A L : Type 0} → Algebra A L → LetTree → A
-folded_let {A} {L} a = fold-LetTree A A A A A A A A A A A A A A A A A A A A L A L a.of_aexp a.of_alt_body a.of_alt_slot a.of_decl_slot a.of_decl a.of_exp a.of_guard a.of_locals a.of_operand a.of_rhs_body a.of_alt_block a.of_alt a.of_case a.of_decl_block a.of_gd a.of_gda a.of_if a.of_infix a.of_lambda a.of_let a.of_link a.of_rhs a.of_signed
+folded_let {A} {L} a = fold-LetTree A A A A A A A A A A A A A A A A A A A A L A L a.of_aexp a.of_alt_body a.of_alt_slot
+    a.of_decl_slot a.of_decl a.of_exp a.of_guard a.of_locals a.of_operand a.of_rhs_body a.of_alt_block a.of_alt
+    a.of_case a.of_decl_block a.of_gd a.of_gda a.of_if a.of_infix a.of_lambda a.of_let a.of_link a.of_rhs a.of_signed
 
 unfoldable pub folded_link : {A L : Type 0} → Algebra A L → OpOperand → L
-folded_link {A} {L} a = fold-OpOperand A A A A A A A A A A A A A A A A A A A A L A L a.of_aexp a.of_alt_body a.of_alt_slot a.of_decl_slot a.of_decl a.of_exp a.of_guard a.of_locals a.of_operand a.of_rhs_body a.of_alt_block a.of_alt a.of_case a.of_decl_block a.of_gd a.of_gda a.of_if a.of_infix a.of_lambda a.of_let a.of_link a.of_rhs a.of_signed
+folded_link {A} {L} a = fold-OpOperand A A A A A A A A A A A A A A A A A A A A L A L a.of_aexp a.of_alt_body
+    a.of_alt_slot a.of_decl_slot a.of_decl a.of_exp a.of_guard a.of_locals a.of_operand a.of_rhs_body a.of_alt_block
+    a.of_alt a.of_case a.of_decl_block a.of_gd a.of_gda a.of_if a.of_infix a.of_lambda a.of_let a.of_link a.of_rhs
+    a.of_signed
 
 unfoldable pub folded_rhs : {A L : Type 0} → Algebra A L → RhsTree → A
-folded_rhs {A} {L} a = fold-RhsTree A A A A A A A A A A A A A A A A A A A A L A L a.of_aexp a.of_alt_body a.of_alt_slot a.of_decl_slot a.of_decl a.of_exp a.of_guard a.of_locals a.of_operand a.of_rhs_body a.of_alt_block a.of_alt a.of_case a.of_decl_block a.of_gd a.of_gda a.of_if a.of_infix a.of_lambda a.of_let a.of_link a.of_rhs a.of_signed
+folded_rhs {A} {L} a = fold-RhsTree A A A A A A A A A A A A A A A A A A A A L A L a.of_aexp a.of_alt_body a.of_alt_slot
+    a.of_decl_slot a.of_decl a.of_exp a.of_guard a.of_locals a.of_operand a.of_rhs_body a.of_alt_block a.of_alt
+    a.of_case a.of_decl_block a.of_gd a.of_gda a.of_if a.of_infix a.of_lambda a.of_let a.of_link a.of_rhs a.of_signed
 
 unfoldable pub folded_signed : {A L : Type 0} → Algebra A L → SignedOperand → L
-folded_signed {A} {L} a = fold-SignedOperand A A A A A A A A A A A A A A A A A A A A L A L a.of_aexp a.of_alt_body a.of_alt_slot a.of_decl_slot a.of_decl a.of_exp a.of_guard a.of_locals a.of_operand a.of_rhs_body a.of_alt_block a.of_alt a.of_case a.of_decl_block a.of_gd a.of_gda a.of_if a.of_infix a.of_lambda a.of_let a.of_link a.of_rhs a.of_signed
+folded_signed {A} {L} a = fold-SignedOperand A A A A A A A A A A A A A A A A A A A A L A L a.of_aexp a.of_alt_body
+    a.of_alt_slot a.of_decl_slot a.of_decl a.of_exp a.of_guard a.of_locals a.of_operand a.of_rhs_body a.of_alt_block
+    a.of_alt a.of_case a.of_decl_block a.of_gd a.of_gda a.of_if a.of_infix a.of_lambda a.of_let a.of_link a.of_rhs
+    a.of_signed

@@ -1,6 +1,8 @@
--- Which trees of expressions and declarations a source can have. A lambda, `let` or `if` takes all that can stand behind it, so it is the last operand of its chain, and no
+-- Which trees of expressions and declarations a source can have. A lambda, `let` or `if` takes all that can stand
+-- behind it, so it is the last operand of its chain, and no
 -- section or annotation is put behind such a chain (Haskell 2010 Report, section 3).
-use Rattle.std.specs.Prelude.{ℕ, Bool, true, false, not, ◌&&◌, nat_lt, nat_le, nat_eq, Option, Some, None, List, [], ◌∷◌, length, map}
+use Rattle.std.specs.Prelude.{ℕ, Bool, true, false, not, ◌&&◌, nat_lt, nat_le, nat_eq, Option, Some, None, List, []}
+use Rattle.std.specs.Prelude.{◌∷◌, length, map}
 use Rattle.hs_forms.specs.Limits.{all_of}
 use Rattle.hs_trees.specs.Types.{is_type}
 use Rattle.hs_trees.specs.Patterns.{is_gcon, is_apat, is_lpat, is_pat}
@@ -28,10 +30,17 @@ use Rattle.hs_modules.specs.declared.expressions.LetTree.{LetTree}
 use Rattle.hs_modules.specs.declared.expressions.OpOperand.{OpOperand}
 use Rattle.hs_modules.specs.declared.expressions.RhsTree.{RhsTree}
 use Rattle.hs_modules.specs.declared.expressions.SignedOperand.{SignedOperand}
-use Rattle.hs_modules.specs.Folds.{Algebra, AExpTreeLayer, AltBodyLayer, AltSlotLayer, DeclSlotLayer, DeclTreeLayer, ExpTreeLayer, GuardTreeLayer, LocalsLayer, OperandTreeLayer, RhsBodyLayer, folded_aexp, folded_alt_body, folded_alt_slot, folded_decl_slot, folded_decl, folded_exp, folded_guard, folded_locals, folded_operand, folded_rhs_body, folded_alt_block, folded_alt, folded_case, folded_decl_block, folded_gd, folded_gda, folded_if, folded_infix, folded_lambda, folded_let, folded_link, folded_rhs, folded_signed}
+use Rattle.hs_modules.specs.Folds.{Algebra, AExpTreeLayer, AltBodyLayer, AltSlotLayer, DeclSlotLayer, DeclTreeLayer}
+use Rattle.hs_modules.specs.Folds.{ExpTreeLayer, GuardTreeLayer, LocalsLayer, OperandTreeLayer, RhsBodyLayer}
+use Rattle.hs_modules.specs.Folds.{folded_aexp, folded_alt_body, folded_alt_slot, folded_decl_slot, folded_decl}
+use Rattle.hs_modules.specs.Folds.{folded_exp, folded_guard, folded_locals, folded_operand, folded_rhs_body}
+use Rattle.hs_modules.specs.Folds.{folded_alt_block, folded_alt, folded_case, folded_decl_block, folded_gd, folded_gda}
+use Rattle.hs_modules.specs.Folds.{folded_if, folded_infix, folded_lambda, folded_let, folded_link, folded_rhs}
+use Rattle.hs_modules.specs.Folds.{folded_signed}
 use Rattle.hs_modules.specs.declared.expressions.FunLhsTree.{FunLhsTree, FunLhsTree-F, fold-FunLhsTree}
 
--- Whether a tree is well formed, whether its last operand is a lambda, `let` or `if`, and whether such an operand ends in an annotation.
+-- Whether a tree is well formed, whether its last operand is a lambda, `let` or `if`, and whether such an operand ends
+-- in an annotation.
 pub record Facts : Type 0 where
   pub good : Bool
   pub is_open : Bool
@@ -93,16 +102,25 @@ is_level (Some (b ∷ bs)) = nat_eq (length bs) 0 && (nat_le 48 b && nat_le b 57
 
 abbrev pub decl_facts : DeclTreeLayer Facts Facts → Facts
 decl_facts (DeclTree-F.Signature first rest ty) = closed (is_type ty)
-decl_facts (DeclTree-F.Fixity word level first rest) = closed (is_level level && (is_operator first && all_of (map is_operator rest)))
+decl_facts (DeclTree-F.Fixity word level first rest) =
+    closed (is_level level && (is_operator first && all_of (map is_operator rest)))
 decl_facts (DeclTree-F.Function left right) = closed (is_fun_lhs left && right.good)
 decl_facts (DeclTree-F.Pattern left right) = closed (is_pat left && right.good)
 
 abbrev pub exp_facts : ExpTreeLayer Facts Facts → Facts
 exp_facts (ExpTree-F.Infix chain) = chain
-exp_facts (ExpTree-F.Annotated chain ty) = record { good = (chain.good && not chain.is_open) && is_type ty; is_open = false; ends_in_type = true }
+exp_facts (ExpTree-F.Annotated chain ty) = record {
+  good = (chain.good && not chain.is_open) && is_type ty;
+  is_open = false;
+  ends_in_type = true;
+}
 
 abbrev pub guard_facts : GuardTreeLayer Facts Facts → Facts
-guard_facts (GuardTree-F.Bind pat chain) = record { good = is_pat pat && chain.good; is_open = chain.is_open; ends_in_type = chain.ends_in_type }
+guard_facts (GuardTree-F.Bind pat chain) = record {
+  good = is_pat pat && chain.good;
+  is_open = chain.is_open;
+  ends_in_type = chain.ends_in_type;
+}
 guard_facts (GuardTree-F.Test chain) = chain
 
 abbrev pub locals_facts : LocalsLayer Facts Facts → Facts
@@ -144,7 +162,11 @@ fact_algebra = record {
   of_gd = λ g. closed ((g.first.good && all_good g.rest) && g.exp.good);
   of_gda = λ g. closed (((g.first.good && all_good g.rest) && not (last_of g.first g.rest).ends_in_type) && g.exp.good);
   of_if = λ i. opened (i.test.good && i.then_part.good) i.else_part;
-  of_infix = λ x. record { good = (x.first.good && all_good x.rest) && closed_front x.first x.rest; is_open = (last_of x.first x.rest).is_open; ends_in_type = (last_of x.first x.rest).ends_in_type };
+  of_infix = λ x. record {
+    good = (x.first.good && all_good x.rest) && closed_front x.first x.rest;
+    is_open = (last_of x.first x.rest).is_open;
+    ends_in_type = (last_of x.first x.rest).ends_in_type;
+  };
   of_lambda = λ l. opened (is_apat l.first && all_of (map is_apat l.rest)) l.body;
   of_let = λ l. opened l.decls.good l.body;
   of_link = λ o. o.operand;

@@ -1,9 +1,20 @@
 -- The measures of trees: their extents, whose numbers stop at the greatest u64.
 use Rattle.hs_modules.specs.declared.measure.Measure.{Measure}
 use Rattle.hs_modules.specs.Measures.{measured}
-use Rattle.hs_modules.specs.PartExtents.{extent_of_atype, extent_of_btype, extent_of_type, extent_of_akind, extent_of_kind, extent_of_apat, extent_of_lpat, extent_of_op_lpat, extent_of_pat, extent_of_fun_lhs}
-use Rattle.hs_modules.specs.ExpressionExtents.{extent_of_aexp, extent_of_alt_body, extent_of_alt_slot, extent_of_decl_slot, extent_of_decl, extent_of_exp, extent_of_guard, extent_of_locals, extent_of_operand, extent_of_rhs_body, extent_of_alt_block, extent_of_alt, extent_of_case, extent_of_decl_block, extent_of_gd, extent_of_gda, extent_of_if, extent_of_infix, extent_of_lambda, extent_of_let, extent_of_link, extent_of_rhs, extent_of_signed}
-use Rattle.hs_modules.specs.Modules.{extent_of_side, extent_of_field, extent_of_constr, extent_of_top_decl, extent_of_sig_decl, extent_of_subs, extent_of_export, extent_of_exports, extent_of_item, extent_of_import_list, extent_of_import, extent_of_top_slot, extent_of_top_block, extent_of_sig_slot, extent_of_sig_block, extent_of_module}
+use Rattle.hs_modules.specs.PartExtents.{extent_of_atype, extent_of_btype, extent_of_type, extent_of_akind}
+use Rattle.hs_modules.specs.PartExtents.{extent_of_kind, extent_of_apat, extent_of_lpat, extent_of_op_lpat}
+use Rattle.hs_modules.specs.PartExtents.{extent_of_pat, extent_of_fun_lhs}
+use Rattle.hs_modules.specs.ExpressionExtents.{extent_of_aexp, extent_of_alt_body, extent_of_alt_slot}
+use Rattle.hs_modules.specs.ExpressionExtents.{extent_of_decl_slot, extent_of_decl, extent_of_exp, extent_of_guard}
+use Rattle.hs_modules.specs.ExpressionExtents.{extent_of_locals, extent_of_operand, extent_of_rhs_body}
+use Rattle.hs_modules.specs.ExpressionExtents.{extent_of_alt_block, extent_of_alt, extent_of_case, extent_of_decl_block}
+use Rattle.hs_modules.specs.ExpressionExtents.{extent_of_gd, extent_of_gda, extent_of_if, extent_of_infix}
+use Rattle.hs_modules.specs.ExpressionExtents.{extent_of_lambda, extent_of_let, extent_of_link, extent_of_rhs}
+use Rattle.hs_modules.specs.ExpressionExtents.{extent_of_signed}
+use Rattle.hs_modules.specs.Modules.{extent_of_side, extent_of_field, extent_of_constr, extent_of_top_decl}
+use Rattle.hs_modules.specs.Modules.{extent_of_sig_decl, extent_of_subs, extent_of_export, extent_of_exports}
+use Rattle.hs_modules.specs.Modules.{extent_of_item, extent_of_import_list, extent_of_import, extent_of_top_slot}
+use Rattle.hs_modules.specs.Modules.{extent_of_top_block, extent_of_sig_slot, extent_of_sig_block, extent_of_module}
 use Rattle.hs_trees.specs.declared.types.ATypeTree.{ATypeTree}
 use Rattle.hs_trees.specs.declared.types.BTypeTree.{BTypeTree}
 use Rattle.hs_trees.specs.declared.types.TypeTree.{TypeTree}

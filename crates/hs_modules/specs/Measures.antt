@@ -35,4 +35,7 @@ with_nodes nodes m = record { size = min (m.size + nodes) most; depth = m.depth 
 
 -- of all the trees of a list
 unfoldable pub all_measured : {T : Type 0} → (T → Measure) → List T → Measure
-all_measured measure trees = record { size = min (sum (map (λ t. (measure t).size) trees)) most; depth = deepest (map (λ t. (measure t).depth) trees) }
+all_measured measure trees = record {
+  size = min (sum (map (λ t. (measure t).size) trees)) most;
+  depth = deepest (map (λ t. (measure t).depth) trees);
+}

@@ -1,4 +1,5 @@
--- Which trees of modules and signatures a source can have (Haskell 2010 Report, chapters 4 and 5): what is declared, or listed by an
+-- Which trees of modules and signatures a source can have (Haskell 2010 Report, chapters 4 and 5): what is declared, or
+-- listed by an
 -- import, is not qualified, imports stand before declarations, and a signature binds nothing.
 use Rattle.std.specs.Prelude.{◌≡◌, ℕ, Bool, true, false, not, ◌&&◌, ◌||◌, List, [], ◌∷◌, map, Option}
 use Rattle.hs_forms.specs.Reading.{Form}
@@ -104,7 +105,8 @@ is_constr (v_constr.Infix left op right) = is_conop op && (is_side left && is_si
 -- what is declared is not qualified: not `data M.T`, nor `newtype T = M.C a`
 abbrev pub is_top_decl : TopDeclTree → Bool
 is_top_decl (v_top.EmptyData name params) = is_unqualified name
-is_top_decl (v_top.Data name params first rest) = is_unqualified name && (is_constr first && all_of (map is_constr rest))
+is_top_decl (v_top.Data name params first rest) = is_unqualified name &&
+    (is_constr first && all_of (map is_constr rest))
 is_top_decl (v_top.Newtype name params con atype) = is_unqualified name && (is_con con && is_atype atype)
 is_top_decl (v_top.Synonym name params ty) = is_unqualified name && is_type ty
 is_top_decl (v_top.Decl decl) = (facts_of_decl decl).good
@@ -112,7 +114,9 @@ is_top_decl (v_top.Decl decl) = (facts_of_decl decl).good
 -- a type's signature, a fixity or a type: no function and no pattern
 abbrev pub binds_nothing : TopDeclTree → Bool
 binds_nothing (v_top.Decl decl) = by (out-DeclTree decl) where
-  by : DeclTree-F AExpTree AltBody AltSlot DeclSlot DeclTree ExpTree GuardTree Locals OperandTree RhsBody AltBlock AltTree CaseTree DeclBlock GdTree GdaTree IfTree InfixTree LambdaTree LetTree OpOperand RhsTree SignedOperand → Bool
+  by : DeclTree-F AExpTree AltBody AltSlot DeclSlot DeclTree ExpTree GuardTree Locals OperandTree RhsBody AltBlock
+      AltTree CaseTree DeclBlock GdTree GdaTree IfTree InfixTree LambdaTree LetTree OpOperand RhsTree SignedOperand
+      → Bool
   by (DeclTree-F.Function left right) = false
   by (DeclTree-F.Pattern left right) = false
   by _ = true
@@ -157,10 +161,12 @@ imports_first imports declares (slot ∷ slots) = imports_ok (declares slot) && 
   imports_ok true = all_of (map (λ s. not (imports s)) slots)
 
 abbrev pub is_top_block : TopBlock → Bool
-is_top_block b = all_of (map is_top_slot (b.first ∷ b.rest)) && imports_first top_imports top_declares (b.first ∷ b.rest)
+is_top_block b = all_of (map is_top_slot (b.first ∷ b.rest)) && imports_first top_imports top_declares
+    (b.first ∷ b.rest)
 
 abbrev pub is_sig_block : SigBlock → Bool
-is_sig_block b = all_of (map is_sig_slot (b.first ∷ b.rest)) && imports_first sig_imports sig_declares (b.first ∷ b.rest)
+is_sig_block b = all_of (map is_sig_slot (b.first ∷ b.rest)) && imports_first sig_imports sig_declares
+    (b.first ∷ b.rest)
 
 -- the trees of a module
 abbrev pub is_module : Module → Bool

@@ -1,4 +1,5 @@
--- The tokens of modules and signatures (Haskell 2010 Report, chapters 4 and 5). `as`, `qualified`, `hiding` and `signature` are names with a meaning there.
+-- The tokens of modules and signatures (Haskell 2010 Report, chapters 4 and 5). `as`, `qualified`, `hiding` and
+-- `signature` are names with a meaning there.
 use Rattle.std.specs.Prelude.{ℕ, Bool, true, false, Option, Some, None, List, [], ◌∷◌, ◌++◌, codes, flat_map, map}
 use Rattle.hs_trees.specs.Types.{spelling_type, spelling_btype, spelling_atype}
 use Rattle.hs_trees.specs.Kinds.{spelling_kind}
@@ -76,14 +77,15 @@ import_list_tokens (v_list.Only items trailing) = listed (map item_tokens items)
 import_list_tokens (v_list.Hiding items trailing) = t.Var (codes "hiding") ∷ listed (map item_tokens items) trailing
 
 abbrev pub import_tokens : ImpDeclTree → Ts
-import_tokens i = t.Word w.Import ∷ (qualified i.qualified ++ t.Con i.modid ∷ (alias i.alias ++ import_list_tokens i.list)) where
-  qualified : Bool → Ts
-  qualified true = t.Var (codes "qualified") ∷ []
-  qualified false = []
+import_tokens i = t.Word w.Import ∷ (qualified i.qualified
+    ++ t.Con i.modid ∷ (alias i.alias ++ import_list_tokens i.list)) where
+      qualified : Bool → Ts
+      qualified true = t.Var (codes "qualified") ∷ []
+      qualified false = []
 
-  alias : Option (List ℕ) → Ts
-  alias None = []
-  alias (Some name) = t.Var (codes "as") ∷ t.Con name ∷ []
+      alias : Option (List ℕ) → Ts
+      alias None = []
+      alias (Some name) = t.Var (codes "as") ∷ t.Con name ∷ []
 
 abbrev pub bang : Ts
 bang = t.VarSym (codes "!") ∷ []
@@ -109,10 +111,12 @@ head_tokens name params = t.Con name ∷ map (λ param. t.Var param) params
 abbrev pub top_decl_tokens : TopDeclTree → Ts
 top_decl_tokens (v_top.EmptyData name params) = t.Word w.Data ∷ head_tokens name params
 top_decl_tokens (v_top.Data name params first rest) =
-    t.Word w.Data ∷ (head_tokens name params ++ t.Equals ∷ (constr_tokens first ++ flat_map (λ constr. t.Bar ∷ constr_tokens constr) rest))
+    t.Word w.Data ∷ (head_tokens name params ++ t.Equals ∷
+    (constr_tokens first ++ flat_map (λ constr. t.Bar ∷ constr_tokens constr) rest))
 top_decl_tokens (v_top.Newtype name params con atype) =
     t.Word w.Newtype ∷ (head_tokens name params ++ t.Equals ∷ (con_tokens con ++ spelling_atype atype))
-top_decl_tokens (v_top.Synonym name params ty) = t.Word w.Type ∷ (head_tokens name params ++ t.Equals ∷ spelling_type ty)
+top_decl_tokens (v_top.Synonym name params ty) = t.Word w.Type ∷
+    (head_tokens name params ++ t.Equals ∷ spelling_type ty)
 top_decl_tokens (v_top.Decl decl) = spelling_decl decl
 
 abbrev pub sig_decl_tokens : SigDeclTree → Ts
@@ -140,4 +144,5 @@ module_tokens (v_module.Headless block) = top_block_tokens block
 module_tokens (v_module.Named name block) = t.Word w.Module ∷ t.Con name ∷ t.Word w.Where ∷ top_block_tokens block
 module_tokens (v_module.Exporting name exports block) =
     t.Word w.Module ∷ t.Con name ∷ (exports_tokens exports ++ t.Word w.Where ∷ top_block_tokens block)
-module_tokens (v_module.Signature name block) = t.Var (codes "signature") ∷ t.Con name ∷ t.Word w.Where ∷ sig_block_tokens block
+module_tokens (v_module.Signature name block) = t.Var (codes "signature") ∷ t.Con name ∷ t.Word w.Where
+    ∷ sig_block_tokens block

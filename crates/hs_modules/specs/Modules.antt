@@ -1,4 +1,5 @@
--- How large and how deep modules and signatures are. The places of a block are no nodes, and each name of an export or import list is one. Names have no depth, and the brackets
+-- How large and how deep modules and signatures are. The places of a block are no nodes, and each name of an export or
+-- import list is one. Names have no depth, and the brackets
 -- of such lists add none.
 use Rattle.std.specs.Prelude.{ℕ, length, map}
 use Rattle.hs_modules.specs.Extents.{Extent, nothing, leaf, beside, all_beside, node, with_nodes}
@@ -45,7 +46,8 @@ extent_of_constr (v_constr.Infix left op right) = node (beside (extent_of_side l
 
 abbrev pub extent_of_top_decl : TopDeclTree → Extent
 extent_of_top_decl (v_top_decl.EmptyData name params) = leaf
-extent_of_top_decl (v_top_decl.Data name params first rest) = node (beside (extent_of_constr first) (all_beside (map extent_of_constr rest)))
+extent_of_top_decl (v_top_decl.Data name params first rest) =
+    node (beside (extent_of_constr first) (all_beside (map extent_of_constr rest)))
 extent_of_top_decl (v_top_decl.Newtype name params con atype) = node (extent_of_atype atype)
 extent_of_top_decl (v_top_decl.Synonym name params ty) = node (extent_of_type ty)
 extent_of_top_decl (v_top_decl.Decl decl) = node (extent_of_decl decl)
@@ -100,7 +102,8 @@ extent_of_sig_block t = beside (extent_of_sig_slot t.first) (all_beside (map ext
 abbrev pub extent_of_module : Module → Extent
 extent_of_module (v_module.Headless block) = node (extent_of_top_block block)
 extent_of_module (v_module.Named name block) = node (extent_of_top_block block)
-extent_of_module (v_module.Exporting name exports block) = node (beside (extent_of_exports exports) (extent_of_top_block block))
+extent_of_module (v_module.Exporting name exports block) =
+    node (beside (extent_of_exports exports) (extent_of_top_block block))
 extent_of_module (v_module.Signature name block) = node (extent_of_sig_block block)
 
 abbrev pub size_of_module : Module → ℕ

@@ -1,4 +1,5 @@
--- How large and how deep types, kinds, patterns and the left sides of functions are. Brackets, tuples, lists, `x@p` and `~p` make their parts deeper by 1, and a chain by the
+-- How large and how deep types, kinds, patterns and the left sides of functions are. Brackets, tuples, lists, `x@p` and
+-- `~p` make their parts deeper by 1, and a chain by the
 -- number of its operators. Each part of a chain of kinds is a `kind` with an `akind`.
 use Rattle.std.specs.Prelude.{ℕ, length, map}
 use Rattle.hs_modules.specs.Extents.{Extent, leaf, beside, all_beside, node, with_nodes, deeper}
@@ -93,7 +94,8 @@ size_of_pat pat = (extent_of_pat pat).size
 
 -- the left sides of functions; brackets about them count
 abbrev pub fun_lhs_extent : FunLhsTree-F Extent → Extent
-fun_lhs_extent (FunLhsTree-F.Prefix var first rest) = node (beside (extent_of_apat first) (all_beside (map extent_of_apat rest)))
+fun_lhs_extent (FunLhsTree-F.Prefix var first rest) =
+    node (beside (extent_of_apat first) (all_beside (map extent_of_apat rest)))
 fun_lhs_extent (FunLhsTree-F.Infix left op right) = node (beside (extent_of_lpat left) (extent_of_lpat right))
 fun_lhs_extent (FunLhsTree-F.Parens inner first rest) =
     node (beside (beside (deeper 1 inner) (extent_of_apat first)) (all_beside (map extent_of_apat rest)))

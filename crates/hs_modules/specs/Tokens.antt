@@ -1,9 +1,11 @@
--- The tokens of a tree of expressions and declarations, from those of its parts (Haskell 2010 Report, chapters 3 and 4). A block's braces and semicolons are those that
+-- The tokens of a tree of expressions and declarations, from those of its parts (Haskell 2010 Report, chapters 3 and
+-- 4). A block's braces and semicolons are those that
 -- layout made or the source has.
 use Rattle.std.specs.Prelude.{ℕ, Bool, true, false, Option, Some, None, List, [], ◌∷◌, ◌++◌, codes, flat_map}
 use Rattle.hs_tokens.specs.Terminals.{minus}
 use Rattle.hs_trees.specs.Types.{spelling_type}
-use Rattle.hs_trees.specs.Patterns.{Ts, literal_token, var_tokens, gcon_tokens, between_commas, spelling_apat, spelling_lpat, spelling_pat}
+use Rattle.hs_trees.specs.Patterns.{Ts, literal_token, var_tokens, gcon_tokens, between_commas, spelling_apat}
+use Rattle.hs_trees.specs.Patterns.{spelling_lpat, spelling_pat}
 use Rattle.hs_tokens.specs.declared.terminal.Terminal.{Terminal}
 use Rattle.hs_tokens.specs.declared.terminal.Terminal.TheVariants as t
 use Rattle.hs_tokens.specs.declared.word.Word.TheVariants as w
@@ -33,7 +35,13 @@ use Rattle.hs_modules.specs.declared.expressions.LetTree.{LetTree}
 use Rattle.hs_modules.specs.declared.expressions.OpOperand.{OpOperand}
 use Rattle.hs_modules.specs.declared.expressions.RhsTree.{RhsTree}
 use Rattle.hs_modules.specs.declared.expressions.SignedOperand.{SignedOperand}
-use Rattle.hs_modules.specs.Folds.{Algebra, AExpTreeLayer, AltBodyLayer, AltSlotLayer, DeclSlotLayer, DeclTreeLayer, ExpTreeLayer, GuardTreeLayer, LocalsLayer, OperandTreeLayer, RhsBodyLayer, folded_aexp, folded_alt_body, folded_alt_slot, folded_decl_slot, folded_decl, folded_exp, folded_guard, folded_locals, folded_operand, folded_rhs_body, folded_alt_block, folded_alt, folded_case, folded_decl_block, folded_gd, folded_gda, folded_if, folded_infix, folded_lambda, folded_let, folded_link, folded_rhs, folded_signed}
+use Rattle.hs_modules.specs.Folds.{Algebra, AExpTreeLayer, AltBodyLayer, AltSlotLayer, DeclSlotLayer, DeclTreeLayer}
+use Rattle.hs_modules.specs.Folds.{ExpTreeLayer, GuardTreeLayer, LocalsLayer, OperandTreeLayer, RhsBodyLayer}
+use Rattle.hs_modules.specs.Folds.{folded_aexp, folded_alt_body, folded_alt_slot, folded_decl_slot, folded_decl}
+use Rattle.hs_modules.specs.Folds.{folded_exp, folded_guard, folded_locals, folded_operand, folded_rhs_body}
+use Rattle.hs_modules.specs.Folds.{folded_alt_block, folded_alt, folded_case, folded_decl_block, folded_gd, folded_gda}
+use Rattle.hs_modules.specs.Folds.{folded_if, folded_infix, folded_lambda, folded_let, folded_link, folded_rhs}
+use Rattle.hs_modules.specs.Folds.{folded_signed}
 use Rattle.hs_modules.specs.declared.expressions.FunLhsTree.{FunLhsTree, FunLhsTree-F, fold-FunLhsTree}
 
 abbrev pub joined : List Ts → Ts
@@ -44,9 +52,11 @@ abbrev pub block_tokens : Ts → List Ts → Ts
 block_tokens first rest = t.LeftBrace ∷ ((first ++ flat_map (λ part. t.Semicolon ∷ part) rest) ++ t.RightBrace ∷ [])
 
 abbrev pub fun_lhs_tokens : FunLhsTree-F Ts → Ts
-fun_lhs_tokens (FunLhsTree-F.Prefix var first rest) = var_tokens var ++ (spelling_apat first ++ flat_map spelling_apat rest)
+fun_lhs_tokens (FunLhsTree-F.Prefix var first rest) =
+    var_tokens var ++ (spelling_apat first ++ flat_map spelling_apat rest)
 fun_lhs_tokens (FunLhsTree-F.Infix left op right) = spelling_lpat left ++ (varop_tokens op ++ spelling_lpat right)
-fun_lhs_tokens (FunLhsTree-F.Parens inner first rest) = t.LeftParen ∷ (inner ++ t.RightParen ∷ (spelling_apat first ++ flat_map spelling_apat rest))
+fun_lhs_tokens (FunLhsTree-F.Parens inner first rest) =
+    t.LeftParen ∷ (inner ++ t.RightParen ∷ (spelling_apat first ++ flat_map spelling_apat rest))
 
 abbrev pub spelling_fun_lhs : FunLhsTree → Ts
 spelling_fun_lhs = fold-FunLhsTree Ts fun_lhs_tokens
@@ -82,8 +92,10 @@ level_tokens None = []
 level_tokens (Some digit) = t.Integer digit ∷ []
 
 abbrev pub decl_tokens : DeclTreeLayer Ts Ts → Ts
-decl_tokens (DeclTree-F.Signature first rest ty) = (var_tokens first ++ flat_map (λ var. t.Comma ∷ var_tokens var) rest) ++ t.DoubleColon ∷ spelling_type ty
-decl_tokens (DeclTree-F.Fixity word level first rest) = fixity_word word ∷ (level_tokens level ++ (op_tokens first ++ flat_map (λ op. t.Comma ∷ op_tokens op) rest))
+decl_tokens (DeclTree-F.Signature first rest ty) =
+    (var_tokens first ++ flat_map (λ var. t.Comma ∷ var_tokens var) rest) ++ t.DoubleColon ∷ spelling_type ty
+decl_tokens (DeclTree-F.Fixity word level first rest) =
+    fixity_word word ∷ (level_tokens level ++ (op_tokens first ++ flat_map (λ op. t.Comma ∷ op_tokens op) rest))
 decl_tokens (DeclTree-F.Function left right) = spelling_fun_lhs left ++ right
 decl_tokens (DeclTree-F.Pattern left right) = spelling_pat left ++ right
 

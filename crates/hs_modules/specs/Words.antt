@@ -55,7 +55,8 @@ qop_tokens (p.QualifiedSym name) = t.QVarSym name ∷ []
 qop_tokens (p.QualifiedQuoted name) = quoted (t.QVar name)
 qop_tokens (p.Con op) = qconop_tokens op
 
--- A constructor's name is not qualified if no dot stands in it; a constructor's symbol is not if it begins with a colon.
+-- A constructor's name is not qualified if no dot stands in it; a constructor's symbol is not if it begins with a
+-- colon.
 abbrev pub has_dot : List ℕ → Bool
 has_dot [] = false
 has_dot (b ∷ bs) = nat_eq b 46 || has_dot bs

@@ -14,7 +14,7 @@ use crate::measure_patterns::{measure_apat, measure_apats, measure_fun_lhs, meas
 use crate::measure_types::measure_type;
 
 #[cycle(expressions)]
-#[tactic(auto, using(crate::proofs::ExpressionMeasures::expression_equations, crate::proofs::Measuring::loop_equations))]
+#[tactic(auto, using(crate::proofs::ExpressionMeasureLemmas::expression_equations, crate::proofs::MeasuringLemmas::loop_equations))]
 fn measure_exp(tree: &ExpTree) -> Measure
     ensures { result ≡ measure_of_exp tree.now }
 {
@@ -28,7 +28,7 @@ fn measure_exp(tree: &ExpTree) -> Measure
 }
 
 #[cycle(expressions)]
-#[tactic(auto, using(crate::proofs::ExpressionMeasures::expression_equations, crate::proofs::Measuring::loop_equations))]
+#[tactic(auto, using(crate::proofs::ExpressionMeasureLemmas::expression_equations, crate::proofs::MeasuringLemmas::loop_equations))]
 fn measure_exps(trees: &[ExpTree]) -> Measure
     ensures { result ≡ all_measured measure_of_exp trees.now }
 {
@@ -40,7 +40,7 @@ fn measure_exps(trees: &[ExpTree]) -> Measure
 }
 
 /// How many operators a sign is.
-#[tactic(auto, using(crate::proofs::ExpressionMeasures::expression_equations))]
+#[tactic(auto, using(crate::proofs::ExpressionMeasureLemmas::expression_equations))]
 fn count_sign(tree: &SignedOperand) -> usize
     ensures { result ≡ operators_of_signed tree.now }
 {
@@ -48,7 +48,7 @@ fn count_sign(tree: &SignedOperand) -> usize
 }
 
 /// How many operators an operator with its sign is.
-#[tactic(auto, using(crate::proofs::ExpressionMeasures::expression_equations))]
+#[tactic(auto, using(crate::proofs::ExpressionMeasureLemmas::expression_equations))]
 fn count_link(tree: &OpOperand) -> usize
     ensures { result ≡ operators_of_link tree.now }
 {
@@ -74,7 +74,7 @@ fn count_operators(tree: &InfixTree) -> usize
 }
 
 #[cycle(expressions)]
-#[tactic(auto, using(crate::proofs::ExpressionMeasures::expression_equations, crate::proofs::Measuring::loop_equations))]
+#[tactic(auto, using(crate::proofs::ExpressionMeasureLemmas::expression_equations, crate::proofs::MeasuringLemmas::loop_equations))]
 fn measure_infix(tree: &InfixTree) -> Measure
     ensures { result ≡ measure_of_infix tree.now }
 {
@@ -85,7 +85,7 @@ fn measure_infix(tree: &InfixTree) -> Measure
 }
 
 #[cycle(expressions)]
-#[tactic(auto, using(crate::proofs::ExpressionMeasures::expression_equations, crate::proofs::Measuring::loop_equations))]
+#[tactic(auto, using(crate::proofs::ExpressionMeasureLemmas::expression_equations, crate::proofs::MeasuringLemmas::loop_equations))]
 fn measure_signed(tree: &SignedOperand) -> Measure
     ensures { result ≡ measure_of_signed tree.now }
 {
@@ -93,7 +93,7 @@ fn measure_signed(tree: &SignedOperand) -> Measure
 }
 
 #[cycle(expressions)]
-#[tactic(auto, using(crate::proofs::ExpressionMeasures::expression_equations, crate::proofs::Measuring::loop_equations))]
+#[tactic(auto, using(crate::proofs::ExpressionMeasureLemmas::expression_equations, crate::proofs::MeasuringLemmas::loop_equations))]
 fn measure_link(tree: &OpOperand) -> Measure
     ensures { result ≡ measure_of_link tree.now }
 {
@@ -101,7 +101,7 @@ fn measure_link(tree: &OpOperand) -> Measure
 }
 
 #[cycle(expressions)]
-#[tactic(auto, using(crate::proofs::ExpressionMeasures::expression_equations, crate::proofs::Measuring::loop_equations))]
+#[tactic(auto, using(crate::proofs::ExpressionMeasureLemmas::expression_equations, crate::proofs::MeasuringLemmas::loop_equations))]
 fn measure_links(trees: &[OpOperand]) -> Measure
     ensures { result ≡ all_measured measure_of_link trees.now }
 {
@@ -113,7 +113,7 @@ fn measure_links(trees: &[OpOperand]) -> Measure
 }
 
 #[cycle(expressions)]
-#[tactic(auto, using(crate::proofs::ExpressionMeasures::expression_equations, crate::proofs::Measuring::loop_equations))]
+#[tactic(auto, using(crate::proofs::ExpressionMeasureLemmas::expression_equations, crate::proofs::MeasuringLemmas::loop_equations))]
 fn measure_operand(tree: &OperandTree) -> Measure
     ensures { result ≡ measure_of_operand tree.now }
 {
@@ -129,7 +129,7 @@ fn measure_operand(tree: &OperandTree) -> Measure
 }
 
 #[cycle(expressions)]
-#[tactic(auto, using(crate::proofs::ExpressionMeasures::expression_equations, crate::proofs::Measuring::loop_equations))]
+#[tactic(auto, using(crate::proofs::ExpressionMeasureLemmas::expression_equations, crate::proofs::MeasuringLemmas::loop_equations))]
 fn measure_lambda(tree: &LambdaTree) -> Measure
     ensures { result ≡ measure_of_lambda tree.now }
 {
@@ -141,7 +141,7 @@ fn measure_lambda(tree: &LambdaTree) -> Measure
 }
 
 #[cycle(expressions)]
-#[tactic(auto, using(crate::proofs::ExpressionMeasures::expression_equations, crate::proofs::Measuring::loop_equations))]
+#[tactic(auto, using(crate::proofs::ExpressionMeasureLemmas::expression_equations, crate::proofs::MeasuringLemmas::loop_equations))]
 fn measure_let(tree: &LetTree) -> Measure
     ensures { result ≡ measure_of_let tree.now }
 {
@@ -152,7 +152,7 @@ fn measure_let(tree: &LetTree) -> Measure
 }
 
 #[cycle(expressions)]
-#[tactic(auto, using(crate::proofs::ExpressionMeasures::expression_equations, crate::proofs::Measuring::loop_equations))]
+#[tactic(auto, using(crate::proofs::ExpressionMeasureLemmas::expression_equations, crate::proofs::MeasuringLemmas::loop_equations))]
 fn measure_if(tree: &IfTree) -> Measure
     ensures { result ≡ measure_of_if tree.now }
 {
@@ -164,7 +164,7 @@ fn measure_if(tree: &IfTree) -> Measure
 }
 
 #[cycle(expressions)]
-#[tactic(auto, using(crate::proofs::ExpressionMeasures::expression_equations, crate::proofs::Measuring::loop_equations))]
+#[tactic(auto, using(crate::proofs::ExpressionMeasureLemmas::expression_equations, crate::proofs::MeasuringLemmas::loop_equations))]
 fn measure_case(tree: &CaseTree) -> Measure
     ensures { result ≡ measure_of_case tree.now }
 {
@@ -175,7 +175,7 @@ fn measure_case(tree: &CaseTree) -> Measure
 }
 
 #[cycle(expressions)]
-#[tactic(auto, using(crate::proofs::ExpressionMeasures::expression_equations, crate::proofs::Measuring::loop_equations))]
+#[tactic(auto, using(crate::proofs::ExpressionMeasureLemmas::expression_equations, crate::proofs::MeasuringLemmas::loop_equations))]
 fn measure_aexp(tree: &AExpTree) -> Measure
     ensures { result ≡ measure_of_aexp tree.now }
 {
@@ -197,7 +197,7 @@ fn measure_aexp(tree: &AExpTree) -> Measure
 }
 
 #[cycle(expressions)]
-#[tactic(auto, using(crate::proofs::ExpressionMeasures::expression_equations, crate::proofs::Measuring::loop_equations))]
+#[tactic(auto, using(crate::proofs::ExpressionMeasureLemmas::expression_equations, crate::proofs::MeasuringLemmas::loop_equations))]
 fn measure_aexps(trees: &[AExpTree]) -> Measure
     ensures { result ≡ all_measured measure_of_aexp trees.now }
 {
@@ -209,7 +209,7 @@ fn measure_aexps(trees: &[AExpTree]) -> Measure
 }
 
 #[cycle(expressions)]
-#[tactic(auto, using(crate::proofs::ExpressionMeasures::expression_equations, crate::proofs::Measuring::loop_equations))]
+#[tactic(auto, using(crate::proofs::ExpressionMeasureLemmas::expression_equations, crate::proofs::MeasuringLemmas::loop_equations))]
 fn measure_alt_block(tree: &AltBlock) -> Measure
     ensures { result ≡ measure_of_alt_block tree.now }
 {
@@ -217,7 +217,7 @@ fn measure_alt_block(tree: &AltBlock) -> Measure
 }
 
 #[cycle(expressions)]
-#[tactic(auto, using(crate::proofs::ExpressionMeasures::expression_equations, crate::proofs::Measuring::loop_equations))]
+#[tactic(auto, using(crate::proofs::ExpressionMeasureLemmas::expression_equations, crate::proofs::MeasuringLemmas::loop_equations))]
 fn measure_alt_slots(trees: &[AltSlot]) -> Measure
     ensures { result ≡ all_measured measure_of_alt_slot trees.now }
 {
@@ -229,7 +229,7 @@ fn measure_alt_slots(trees: &[AltSlot]) -> Measure
 }
 
 #[cycle(expressions)]
-#[tactic(auto, using(crate::proofs::ExpressionMeasures::expression_equations, crate::proofs::Measuring::loop_equations))]
+#[tactic(auto, using(crate::proofs::ExpressionMeasureLemmas::expression_equations, crate::proofs::MeasuringLemmas::loop_equations))]
 fn measure_alt_slot(tree: &AltSlot) -> Measure
     ensures { result ≡ measure_of_alt_slot tree.now }
 {
@@ -240,7 +240,7 @@ fn measure_alt_slot(tree: &AltSlot) -> Measure
 }
 
 #[cycle(expressions)]
-#[tactic(auto, using(crate::proofs::ExpressionMeasures::expression_equations, crate::proofs::Measuring::loop_equations))]
+#[tactic(auto, using(crate::proofs::ExpressionMeasureLemmas::expression_equations, crate::proofs::MeasuringLemmas::loop_equations))]
 fn measure_alt(tree: &AltTree) -> Measure
     ensures { result ≡ measure_of_alt tree.now }
 {
@@ -251,7 +251,7 @@ fn measure_alt(tree: &AltTree) -> Measure
 }
 
 #[cycle(expressions)]
-#[tactic(auto, using(crate::proofs::ExpressionMeasures::expression_equations, crate::proofs::Measuring::loop_equations))]
+#[tactic(auto, using(crate::proofs::ExpressionMeasureLemmas::expression_equations, crate::proofs::MeasuringLemmas::loop_equations))]
 fn measure_alt_body(tree: &AltBody) -> Measure
     ensures { result ≡ measure_of_alt_body tree.now }
 {
@@ -264,7 +264,7 @@ fn measure_alt_body(tree: &AltBody) -> Measure
 }
 
 #[cycle(expressions)]
-#[tactic(auto, using(crate::proofs::ExpressionMeasures::expression_equations, crate::proofs::Measuring::loop_equations))]
+#[tactic(auto, using(crate::proofs::ExpressionMeasureLemmas::expression_equations, crate::proofs::MeasuringLemmas::loop_equations))]
 fn measure_gda(tree: &GdaTree) -> Measure
     ensures { result ≡ measure_of_gda tree.now }
 {
@@ -275,7 +275,7 @@ fn measure_gda(tree: &GdaTree) -> Measure
 }
 
 #[cycle(expressions)]
-#[tactic(auto, using(crate::proofs::ExpressionMeasures::expression_equations, crate::proofs::Measuring::loop_equations))]
+#[tactic(auto, using(crate::proofs::ExpressionMeasureLemmas::expression_equations, crate::proofs::MeasuringLemmas::loop_equations))]
 fn measure_gdas(trees: &[GdaTree]) -> Measure
     ensures { result ≡ all_measured measure_of_gda trees.now }
 {
@@ -287,7 +287,7 @@ fn measure_gdas(trees: &[GdaTree]) -> Measure
 }
 
 #[cycle(expressions)]
-#[tactic(auto, using(crate::proofs::ExpressionMeasures::expression_equations, crate::proofs::Measuring::loop_equations))]
+#[tactic(auto, using(crate::proofs::ExpressionMeasureLemmas::expression_equations, crate::proofs::MeasuringLemmas::loop_equations))]
 fn measure_guard(tree: &GuardTree) -> Measure
     ensures { result ≡ measure_of_guard tree.now }
 {
@@ -298,7 +298,7 @@ fn measure_guard(tree: &GuardTree) -> Measure
 }
 
 #[cycle(expressions)]
-#[tactic(auto, using(crate::proofs::ExpressionMeasures::expression_equations, crate::proofs::Measuring::loop_equations))]
+#[tactic(auto, using(crate::proofs::ExpressionMeasureLemmas::expression_equations, crate::proofs::MeasuringLemmas::loop_equations))]
 fn measure_guards(trees: &[GuardTree]) -> Measure
     ensures { result ≡ all_measured measure_of_guard trees.now }
 {
@@ -310,7 +310,7 @@ fn measure_guards(trees: &[GuardTree]) -> Measure
 }
 
 #[cycle(expressions)]
-#[tactic(auto, using(crate::proofs::ExpressionMeasures::expression_equations, crate::proofs::Measuring::loop_equations))]
+#[tactic(auto, using(crate::proofs::ExpressionMeasureLemmas::expression_equations, crate::proofs::MeasuringLemmas::loop_equations))]
 fn measure_decl_block(tree: &DeclBlock) -> Measure
     ensures { result ≡ measure_of_decl_block tree.now }
 {
@@ -318,7 +318,7 @@ fn measure_decl_block(tree: &DeclBlock) -> Measure
 }
 
 #[cycle(expressions)]
-#[tactic(auto, using(crate::proofs::ExpressionMeasures::expression_equations, crate::proofs::Measuring::loop_equations))]
+#[tactic(auto, using(crate::proofs::ExpressionMeasureLemmas::expression_equations, crate::proofs::MeasuringLemmas::loop_equations))]
 fn measure_decl_slots(trees: &[DeclSlot]) -> Measure
     ensures { result ≡ all_measured measure_of_decl_slot trees.now }
 {
@@ -330,7 +330,7 @@ fn measure_decl_slots(trees: &[DeclSlot]) -> Measure
 }
 
 #[cycle(expressions)]
-#[tactic(auto, using(crate::proofs::ExpressionMeasures::expression_equations, crate::proofs::Measuring::loop_equations))]
+#[tactic(auto, using(crate::proofs::ExpressionMeasureLemmas::expression_equations, crate::proofs::MeasuringLemmas::loop_equations))]
 fn measure_decl_slot(tree: &DeclSlot) -> Measure
     ensures { result ≡ measure_of_decl_slot tree.now }
 {
@@ -342,7 +342,7 @@ fn measure_decl_slot(tree: &DeclSlot) -> Measure
 
 /// Nodes and depth of a declaration.
 #[cycle(expressions)]
-#[tactic(auto, using(crate::proofs::ExpressionMeasures::expression_equations, crate::proofs::Measuring::loop_equations))]
+#[tactic(auto, using(crate::proofs::ExpressionMeasureLemmas::expression_equations, crate::proofs::MeasuringLemmas::loop_equations))]
 pub fn measure_decl(tree: &DeclTree) -> Measure
     ensures { result ≡ measure_of_decl tree.now }
 {
@@ -355,7 +355,7 @@ pub fn measure_decl(tree: &DeclTree) -> Measure
 }
 
 #[cycle(expressions)]
-#[tactic(auto, using(crate::proofs::ExpressionMeasures::expression_equations, crate::proofs::Measuring::loop_equations))]
+#[tactic(auto, using(crate::proofs::ExpressionMeasureLemmas::expression_equations, crate::proofs::MeasuringLemmas::loop_equations))]
 fn measure_rhs(tree: &RhsTree) -> Measure
     ensures { result ≡ measure_of_rhs tree.now }
 {
@@ -365,7 +365,7 @@ fn measure_rhs(tree: &RhsTree) -> Measure
 }
 
 #[cycle(expressions)]
-#[tactic(auto, using(crate::proofs::ExpressionMeasures::expression_equations, crate::proofs::Measuring::loop_equations))]
+#[tactic(auto, using(crate::proofs::ExpressionMeasureLemmas::expression_equations, crate::proofs::MeasuringLemmas::loop_equations))]
 fn measure_rhs_body(tree: &RhsBody) -> Measure
     ensures { result ≡ measure_of_rhs_body tree.now }
 {
@@ -378,7 +378,7 @@ fn measure_rhs_body(tree: &RhsBody) -> Measure
 }
 
 #[cycle(expressions)]
-#[tactic(auto, using(crate::proofs::ExpressionMeasures::expression_equations, crate::proofs::Measuring::loop_equations))]
+#[tactic(auto, using(crate::proofs::ExpressionMeasureLemmas::expression_equations, crate::proofs::MeasuringLemmas::loop_equations))]
 fn measure_gd(tree: &GdTree) -> Measure
     ensures { result ≡ measure_of_gd tree.now }
 {
@@ -389,7 +389,7 @@ fn measure_gd(tree: &GdTree) -> Measure
 }
 
 #[cycle(expressions)]
-#[tactic(auto, using(crate::proofs::ExpressionMeasures::expression_equations, crate::proofs::Measuring::loop_equations))]
+#[tactic(auto, using(crate::proofs::ExpressionMeasureLemmas::expression_equations, crate::proofs::MeasuringLemmas::loop_equations))]
 fn measure_gds(trees: &[GdTree]) -> Measure
     ensures { result ≡ all_measured measure_of_gd trees.now }
 {
@@ -401,7 +401,7 @@ fn measure_gds(trees: &[GdTree]) -> Measure
 }
 
 #[cycle(expressions)]
-#[tactic(auto, using(crate::proofs::ExpressionMeasures::expression_equations, crate::proofs::Measuring::loop_equations))]
+#[tactic(auto, using(crate::proofs::ExpressionMeasureLemmas::expression_equations, crate::proofs::MeasuringLemmas::loop_equations))]
 fn measure_locals(tree: &Locals) -> Measure
     ensures { result ≡ measure_of_locals tree.now }
 {

@@ -29,7 +29,7 @@ pub fn depth(module: &Module) -> u64
     measure_module(module).depth
 }
 
-#[tactic(auto, using(crate::proofs::ModuleMeasures::module_equations))]
+#[tactic(auto, using(crate::proofs::ModuleMeasureLemmas::module_equations))]
 fn measure_module(tree: &Module) -> Measure
     ensures { result ≡ measure_of_module tree.now }
 {
@@ -43,14 +43,14 @@ fn measure_module(tree: &Module) -> Measure
     }
 }
 
-#[tactic(auto, using(crate::proofs::ModuleMeasures::module_equations))]
+#[tactic(auto, using(crate::proofs::ModuleMeasureLemmas::module_equations))]
 fn measure_exports(tree: &ExportsTree) -> Measure
     ensures { result ≡ measure_of_exports tree.now }
 {
     measure_export_list(tree.exports.as_slice()).node()
 }
 
-#[tactic(auto, using(crate::proofs::Measuring::loop_equations))]
+#[tactic(auto, using(crate::proofs::MeasuringLemmas::loop_equations))]
 fn measure_export_list(trees: &[ExportTree]) -> Measure
     ensures { result ≡ all_measured measure_of_export trees.now }
 {
@@ -61,7 +61,7 @@ fn measure_export_list(trees: &[ExportTree]) -> Measure
     total
 }
 
-#[tactic(auto, using(crate::proofs::ModuleMeasures::module_equations))]
+#[tactic(auto, using(crate::proofs::ModuleMeasureLemmas::module_equations))]
 fn measure_export(tree: &ExportTree) -> Measure
     ensures { result ≡ measure_of_export tree.now }
 {
@@ -73,7 +73,7 @@ fn measure_export(tree: &ExportTree) -> Measure
     }
 }
 
-#[tactic(auto, using(crate::proofs::ModuleMeasures::module_equations))]
+#[tactic(auto, using(crate::proofs::ModuleMeasureLemmas::module_equations))]
 fn measure_subs(tree: &SubsTree) -> Measure
     ensures { result ≡ measure_of_subs tree.now }
 {
@@ -83,14 +83,14 @@ fn measure_subs(tree: &SubsTree) -> Measure
     }
 }
 
-#[tactic(auto, using(crate::proofs::ModuleMeasures::module_equations))]
+#[tactic(auto, using(crate::proofs::ModuleMeasureLemmas::module_equations))]
 fn measure_import(tree: &ImpDeclTree) -> Measure
     ensures { result ≡ measure_of_import tree.now }
 {
     measure_import_list(&tree.list).node()
 }
 
-#[tactic(auto, using(crate::proofs::ModuleMeasures::module_equations))]
+#[tactic(auto, using(crate::proofs::ModuleMeasureLemmas::module_equations))]
 fn measure_import_list(tree: &ImportList) -> Measure
     ensures { result ≡ measure_of_import_list tree.now }
 {
@@ -101,7 +101,7 @@ fn measure_import_list(tree: &ImportList) -> Measure
     }
 }
 
-#[tactic(auto, using(crate::proofs::Measuring::loop_equations))]
+#[tactic(auto, using(crate::proofs::MeasuringLemmas::loop_equations))]
 fn measure_items(trees: &[ItemTree]) -> Measure
     ensures { result ≡ all_measured measure_of_item trees.now }
 {
@@ -112,7 +112,7 @@ fn measure_items(trees: &[ItemTree]) -> Measure
     total
 }
 
-#[tactic(auto, using(crate::proofs::ModuleMeasures::module_equations))]
+#[tactic(auto, using(crate::proofs::ModuleMeasureLemmas::module_equations))]
 fn measure_item(tree: &ItemTree) -> Measure
     ensures { result ≡ measure_of_item tree.now }
 {
@@ -123,14 +123,14 @@ fn measure_item(tree: &ItemTree) -> Measure
     }
 }
 
-#[tactic(auto, using(crate::proofs::ModuleMeasures::module_equations))]
+#[tactic(auto, using(crate::proofs::ModuleMeasureLemmas::module_equations))]
 fn measure_top_block(tree: &TopBlock) -> Measure
     ensures { result ≡ measure_of_top_block tree.now }
 {
     measure_top_slot(&tree.first).beside(measure_top_slots(tree.rest.as_slice()))
 }
 
-#[tactic(auto, using(crate::proofs::Measuring::loop_equations))]
+#[tactic(auto, using(crate::proofs::MeasuringLemmas::loop_equations))]
 fn measure_top_slots(trees: &[TopSlot]) -> Measure
     ensures { result ≡ all_measured measure_of_top_slot trees.now }
 {
@@ -141,7 +141,7 @@ fn measure_top_slots(trees: &[TopSlot]) -> Measure
     total
 }
 
-#[tactic(auto, using(crate::proofs::ModuleMeasures::module_equations))]
+#[tactic(auto, using(crate::proofs::ModuleMeasureLemmas::module_equations))]
 fn measure_top_slot(tree: &TopSlot) -> Measure
     ensures { result ≡ measure_of_top_slot tree.now }
 {
@@ -152,14 +152,14 @@ fn measure_top_slot(tree: &TopSlot) -> Measure
     }
 }
 
-#[tactic(auto, using(crate::proofs::ModuleMeasures::module_equations))]
+#[tactic(auto, using(crate::proofs::ModuleMeasureLemmas::module_equations))]
 fn measure_sig_block(tree: &SigBlock) -> Measure
     ensures { result ≡ measure_of_sig_block tree.now }
 {
     measure_sig_slot(&tree.first).beside(measure_sig_slots(tree.rest.as_slice()))
 }
 
-#[tactic(auto, using(crate::proofs::Measuring::loop_equations))]
+#[tactic(auto, using(crate::proofs::MeasuringLemmas::loop_equations))]
 fn measure_sig_slots(trees: &[SigSlot]) -> Measure
     ensures { result ≡ all_measured measure_of_sig_slot trees.now }
 {
@@ -170,7 +170,7 @@ fn measure_sig_slots(trees: &[SigSlot]) -> Measure
     total
 }
 
-#[tactic(auto, using(crate::proofs::ModuleMeasures::module_equations))]
+#[tactic(auto, using(crate::proofs::ModuleMeasureLemmas::module_equations))]
 fn measure_sig_slot(tree: &SigSlot) -> Measure
     ensures { result ≡ measure_of_sig_slot tree.now }
 {
@@ -181,7 +181,7 @@ fn measure_sig_slot(tree: &SigSlot) -> Measure
     }
 }
 
-#[tactic(auto, using(crate::proofs::ModuleMeasures::module_equations))]
+#[tactic(auto, using(crate::proofs::ModuleMeasureLemmas::module_equations))]
 fn measure_sig_decl(tree: &SigDeclTree) -> Measure
     ensures { result ≡ measure_of_sig_decl tree.now }
 {
@@ -191,7 +191,7 @@ fn measure_sig_decl(tree: &SigDeclTree) -> Measure
     }
 }
 
-#[tactic(auto, using(crate::proofs::ModuleMeasures::module_equations))]
+#[tactic(auto, using(crate::proofs::ModuleMeasureLemmas::module_equations))]
 fn measure_top_decl(tree: &TopDeclTree) -> Measure
     ensures { result ≡ measure_of_top_decl tree.now }
 {
@@ -206,7 +206,7 @@ fn measure_top_decl(tree: &TopDeclTree) -> Measure
     }
 }
 
-#[tactic(auto, using(crate::proofs::Measuring::loop_equations))]
+#[tactic(auto, using(crate::proofs::MeasuringLemmas::loop_equations))]
 fn measure_constrs(trees: &[ConstrTree]) -> Measure
     ensures { result ≡ all_measured measure_of_constr trees.now }
 {
@@ -217,7 +217,7 @@ fn measure_constrs(trees: &[ConstrTree]) -> Measure
     total
 }
 
-#[tactic(auto, using(crate::proofs::ModuleMeasures::module_equations))]
+#[tactic(auto, using(crate::proofs::ModuleMeasureLemmas::module_equations))]
 fn measure_constr(tree: &ConstrTree) -> Measure
     ensures { result ≡ measure_of_constr tree.now }
 {
@@ -227,7 +227,7 @@ fn measure_constr(tree: &ConstrTree) -> Measure
     }
 }
 
-#[tactic(auto, using(crate::proofs::Measuring::loop_equations))]
+#[tactic(auto, using(crate::proofs::MeasuringLemmas::loop_equations))]
 fn measure_fields(trees: &[Field]) -> Measure
     ensures { result ≡ all_measured measure_of_field trees.now }
 {
@@ -238,14 +238,14 @@ fn measure_fields(trees: &[Field]) -> Measure
     total
 }
 
-#[tactic(auto, using(crate::proofs::ModuleMeasures::module_equations))]
+#[tactic(auto, using(crate::proofs::ModuleMeasureLemmas::module_equations))]
 fn measure_field(tree: &Field) -> Measure
     ensures { result ≡ measure_of_field tree.now }
 {
     measure_atype(&tree.atype)
 }
 
-#[tactic(auto, using(crate::proofs::ModuleMeasures::module_equations))]
+#[tactic(auto, using(crate::proofs::ModuleMeasureLemmas::module_equations))]
 fn measure_side(tree: &ConstrSide) -> Measure
     ensures { result ≡ measure_of_side tree.now }
 {

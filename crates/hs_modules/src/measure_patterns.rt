@@ -9,7 +9,7 @@ use hs_trees::{APatTree, LPatTree, OpLPat, PatTree};
 
 /// Nodes and depth of a pattern.
 #[cycle(patterns)]
-#[tactic(auto, using(crate::proofs::PatternMeasures::pattern_equations, crate::proofs::Measuring::loop_equations))]
+#[tactic(auto, using(crate::proofs::PatternMeasureLemmas::pattern_equations, crate::proofs::MeasuringLemmas::loop_equations))]
 pub fn measure_pat(tree: &PatTree) -> Measure
     ensures { result ≡ measure_of_pat tree.now }
 {
@@ -20,7 +20,7 @@ pub fn measure_pat(tree: &PatTree) -> Measure
 }
 
 #[cycle(patterns)]
-#[tactic(auto, using(crate::proofs::PatternMeasures::pattern_equations, crate::proofs::Measuring::loop_equations))]
+#[tactic(auto, using(crate::proofs::PatternMeasureLemmas::pattern_equations, crate::proofs::MeasuringLemmas::loop_equations))]
 fn measure_pats(trees: &[PatTree]) -> Measure
     ensures { result ≡ all_measured measure_of_pat trees.now }
 {
@@ -32,7 +32,7 @@ fn measure_pats(trees: &[PatTree]) -> Measure
 }
 
 #[cycle(patterns)]
-#[tactic(auto, using(crate::proofs::PatternMeasures::pattern_equations, crate::proofs::Measuring::loop_equations))]
+#[tactic(auto, using(crate::proofs::PatternMeasureLemmas::pattern_equations, crate::proofs::MeasuringLemmas::loop_equations))]
 fn measure_op_lpats(trees: &[OpLPat]) -> Measure
     ensures { result ≡ all_measured measure_of_op_lpat trees.now }
 {
@@ -44,7 +44,7 @@ fn measure_op_lpats(trees: &[OpLPat]) -> Measure
 }
 
 #[cycle(patterns)]
-#[tactic(auto, using(crate::proofs::PatternMeasures::pattern_equations, crate::proofs::Measuring::loop_equations))]
+#[tactic(auto, using(crate::proofs::PatternMeasureLemmas::pattern_equations, crate::proofs::MeasuringLemmas::loop_equations))]
 fn measure_op_lpat(tree: &OpLPat) -> Measure
     ensures { result ≡ measure_of_op_lpat tree.now }
 {
@@ -52,7 +52,7 @@ fn measure_op_lpat(tree: &OpLPat) -> Measure
 }
 
 #[cycle(patterns)]
-#[tactic(auto, using(crate::proofs::PatternMeasures::pattern_equations, crate::proofs::Measuring::loop_equations))]
+#[tactic(auto, using(crate::proofs::PatternMeasureLemmas::pattern_equations, crate::proofs::MeasuringLemmas::loop_equations))]
 pub fn measure_lpat(tree: &LPatTree) -> Measure
     ensures { result ≡ measure_of_lpat tree.now }
 {
@@ -67,7 +67,7 @@ pub fn measure_lpat(tree: &LPatTree) -> Measure
 }
 
 #[cycle(patterns)]
-#[tactic(auto, using(crate::proofs::PatternMeasures::pattern_equations, crate::proofs::Measuring::loop_equations))]
+#[tactic(auto, using(crate::proofs::PatternMeasureLemmas::pattern_equations, crate::proofs::MeasuringLemmas::loop_equations))]
 pub fn measure_apat(tree: &APatTree) -> Measure
     ensures { result ≡ measure_of_apat tree.now }
 {
@@ -90,7 +90,7 @@ pub fn measure_apat(tree: &APatTree) -> Measure
 }
 
 #[cycle(patterns)]
-#[tactic(auto, using(crate::proofs::PatternMeasures::pattern_equations, crate::proofs::Measuring::loop_equations))]
+#[tactic(auto, using(crate::proofs::PatternMeasureLemmas::pattern_equations, crate::proofs::MeasuringLemmas::loop_equations))]
 pub fn measure_apats(trees: &[APatTree]) -> Measure
     ensures { result ≡ all_measured measure_of_apat trees.now }
 {
@@ -102,7 +102,7 @@ pub fn measure_apats(trees: &[APatTree]) -> Measure
 }
 
 /// Nodes and depth of the left side of a function.
-#[tactic(auto, using(crate::proofs::PatternMeasures::pattern_equations))]
+#[tactic(auto, using(crate::proofs::PatternMeasureLemmas::pattern_equations))]
 pub fn measure_fun_lhs(tree: &FunLhsTree) -> Measure
     ensures { result ≡ measure_of_fun_lhs tree.now }
 {

@@ -8,7 +8,7 @@ use hs_trees::{AKindTree, ATypeTree, BTypeTree, KindTree, TypeTree};
 
 /// Nodes and depth of a type.
 #[cycle(types)]
-#[tactic(auto, using(crate::proofs::TypeMeasures::type_equations, crate::proofs::Measuring::loop_equations))]
+#[tactic(auto, using(crate::proofs::TypeMeasureLemmas::type_equations, crate::proofs::MeasuringLemmas::loop_equations))]
 pub fn measure_type(tree: &TypeTree) -> Measure
     ensures { result ≡ measure_of_type tree.now }
 {
@@ -19,7 +19,7 @@ pub fn measure_type(tree: &TypeTree) -> Measure
 }
 
 #[cycle(types)]
-#[tactic(auto, using(crate::proofs::TypeMeasures::type_equations, crate::proofs::Measuring::loop_equations))]
+#[tactic(auto, using(crate::proofs::TypeMeasureLemmas::type_equations, crate::proofs::MeasuringLemmas::loop_equations))]
 fn measure_types(trees: &[TypeTree]) -> Measure
     ensures { result ≡ all_measured measure_of_type trees.now }
 {
@@ -31,7 +31,7 @@ fn measure_types(trees: &[TypeTree]) -> Measure
 }
 
 #[cycle(types)]
-#[tactic(auto, using(crate::proofs::TypeMeasures::type_equations, crate::proofs::Measuring::loop_equations))]
+#[tactic(auto, using(crate::proofs::TypeMeasureLemmas::type_equations, crate::proofs::MeasuringLemmas::loop_equations))]
 pub fn measure_btype(tree: &BTypeTree) -> Measure
     ensures { result ≡ measure_of_btype tree.now }
 {
@@ -41,7 +41,7 @@ pub fn measure_btype(tree: &BTypeTree) -> Measure
 }
 
 #[cycle(types)]
-#[tactic(auto, using(crate::proofs::TypeMeasures::type_equations, crate::proofs::Measuring::loop_equations))]
+#[tactic(auto, using(crate::proofs::TypeMeasureLemmas::type_equations, crate::proofs::MeasuringLemmas::loop_equations))]
 fn measure_btypes(trees: &[BTypeTree]) -> Measure
     ensures { result ≡ all_measured measure_of_btype trees.now }
 {
@@ -53,7 +53,7 @@ fn measure_btypes(trees: &[BTypeTree]) -> Measure
 }
 
 #[cycle(types)]
-#[tactic(auto, using(crate::proofs::TypeMeasures::type_equations, crate::proofs::Measuring::loop_equations))]
+#[tactic(auto, using(crate::proofs::TypeMeasureLemmas::type_equations, crate::proofs::MeasuringLemmas::loop_equations))]
 pub fn measure_atype(tree: &ATypeTree) -> Measure
     ensures { result ≡ measure_of_atype tree.now }
 {
@@ -73,7 +73,7 @@ pub fn measure_atype(tree: &ATypeTree) -> Measure
 }
 
 #[cycle(types)]
-#[tactic(auto, using(crate::proofs::TypeMeasures::type_equations, crate::proofs::Measuring::loop_equations))]
+#[tactic(auto, using(crate::proofs::TypeMeasureLemmas::type_equations, crate::proofs::MeasuringLemmas::loop_equations))]
 fn measure_atypes(trees: &[ATypeTree]) -> Measure
     ensures { result ≡ all_measured measure_of_atype trees.now }
 {
@@ -86,7 +86,7 @@ fn measure_atypes(trees: &[ATypeTree]) -> Measure
 
 /// Nodes and depth of a kind; each part of its chain is a `kind`.
 #[cycle(kinds)]
-#[tactic(auto, using(crate::proofs::TypeMeasures::type_equations, crate::proofs::Measuring::loop_equations))]
+#[tactic(auto, using(crate::proofs::TypeMeasureLemmas::type_equations, crate::proofs::MeasuringLemmas::loop_equations))]
 pub fn measure_kind(tree: &KindTree) -> Measure
     ensures { result ≡ measure_of_kind tree.now }
 {
@@ -98,7 +98,7 @@ pub fn measure_kind(tree: &KindTree) -> Measure
 }
 
 #[cycle(kinds)]
-#[tactic(auto, using(crate::proofs::TypeMeasures::type_equations, crate::proofs::Measuring::loop_equations))]
+#[tactic(auto, using(crate::proofs::TypeMeasureLemmas::type_equations, crate::proofs::MeasuringLemmas::loop_equations))]
 fn measure_akind(tree: &AKindTree) -> Measure
     ensures { result ≡ measure_of_akind tree.now }
 {
@@ -109,7 +109,7 @@ fn measure_akind(tree: &AKindTree) -> Measure
 }
 
 #[cycle(kinds)]
-#[tactic(auto, using(crate::proofs::TypeMeasures::type_equations, crate::proofs::Measuring::loop_equations))]
+#[tactic(auto, using(crate::proofs::TypeMeasureLemmas::type_equations, crate::proofs::MeasuringLemmas::loop_equations))]
 fn measure_akinds(trees: &[AKindTree]) -> Measure
     ensures { result ≡ all_measured measure_of_akind trees.now }
 {

@@ -22,7 +22,7 @@ pub fn size_of_type(tree: &TypeTree) -> u64
 }
 
 /// How deep a type is; the greatest u64 if it is deeper. It takes no memory.
-#[tactic(auto, using(crate::proofs::PartDepths::type_depth_is), unfolding(crate::specs::Measured::measure_of_type, crate::specs::Measures::measured, crate::specs::Measures::capped))]
+#[tactic(auto, using(crate::proofs::PartDepthLemmas::type_depth_is), unfolding(crate::specs::Measured::measure_of_type, crate::specs::Measures::measured, crate::specs::Measures::capped))]
 pub fn depth_of_type(tree: &TypeTree) -> u64
     ensures { result ≡ min (depth_of_type tree.now) most }
 {
@@ -38,7 +38,7 @@ pub fn size_of_kind(tree: &KindTree) -> u64
 }
 
 /// How deep a kind is; the greatest u64 if it is deeper. It takes no memory.
-#[tactic(auto, using(crate::proofs::PartDepths::kind_depth_is), unfolding(crate::specs::Measured::measure_of_kind, crate::specs::Measures::measured, crate::specs::Measures::capped))]
+#[tactic(auto, using(crate::proofs::PartDepthLemmas::kind_depth_is), unfolding(crate::specs::Measured::measure_of_kind, crate::specs::Measures::measured, crate::specs::Measures::capped))]
 pub fn depth_of_kind(tree: &KindTree) -> u64
     ensures { result ≡ min (depth_of_kind tree.now) most }
 {
@@ -54,7 +54,7 @@ pub fn size_of_pat(tree: &PatTree) -> u64
 }
 
 /// How deep a pattern is; the greatest u64 if it is deeper. It takes no memory.
-#[tactic(auto, using(crate::proofs::PartDepths::pat_depth_is), unfolding(crate::specs::Measured::measure_of_pat, crate::specs::Measures::measured, crate::specs::Measures::capped))]
+#[tactic(auto, using(crate::proofs::PartDepthLemmas::pat_depth_is), unfolding(crate::specs::Measured::measure_of_pat, crate::specs::Measures::measured, crate::specs::Measures::capped))]
 pub fn depth_of_pat(tree: &PatTree) -> u64
     ensures { result ≡ min (depth_of_pat tree.now) most }
 {

@@ -1,5 +1,5 @@
-use hs_modules::*;
 use bp_base::{Bytes, Name, Names};
+use hs_modules::*;
 use hs_trees::{
     AKindTree, APatTree, ATypeTree, BTypeTree, GConTree, KindTree, LPatTree, LiteralTree, OpLPat,
     PatTree, QConOpTree, TypeTree, VarTree,

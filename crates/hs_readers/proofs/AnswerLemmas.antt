@@ -1,5 +1,6 @@
 -- What a reader answers, from what a reader of a part answered.
-use Rattle.std.proofs.Common.{◌≡◌, ℕ, zero, suc, ◌+◌, ◌<◌, true, false, List, [], ◌∷◌, ◌++◌, length, drop, refl, sym, ap, ◌∙◌, true≢false, arith}
+use Rattle.std.proofs.Common.{◌≡◌, ℕ, zero, suc, ◌+◌, ◌<◌, true, false, List, [], ◌∷◌, ◌++◌, length, drop, refl, sym}
+use Rattle.std.proofs.Common.{ap, ◌∙◌, true≢false, arith}
 use Rattle.std.specs.Prelude.{Result, Ok, Err, replicate}
 use Rattle.std.specs.List.{prefix_len}
 use Rattle.hs_forms.specs.Reading.{begins}
@@ -40,7 +41,8 @@ comma_led (t.Comma ∷ ts) h = refl
 comma_led (_ ∷ ts) h = absurd (true≢false (sym h))
 
 -- the commas at the front
-pub commas_split : (ts : List Terminal) → ts ≡ replicate (prefix_len is_comma ts) t.Comma ++ drop (prefix_len is_comma ts) ts
+pub commas_split : (ts : List Terminal) → ts ≡ replicate (prefix_len is_comma ts) t.Comma
+    ++ drop (prefix_len is_comma ts) ts
 commas_split [] = refl
 commas_split (t.Comma ∷ ts) =
     let n = prefix_len is_comma ts in

@@ -5,7 +5,7 @@ ghost use Rattle.hs_forms.specs.Limits.{Within, deepest};
 ghost use Rattle.hs_tokens.specs.Terminals.{is_comma, starts_qconop};
 ghost use Rattle.hs_trees.specs.Patterns.{var_tokens, named_con, opens_pat, depth_of_apats, depth_of_pat, depth_of_pats, apat_sort, apats_sort, lpat_sort, pat_sort, pats_sort};
 ghost use Rattle.hs_tokens.specs.declared.terminal.Terminal.TheVariants.{LeftParen, LeftBracket, Tilde};
-ghost use Rattle.hs_trees.proofs.PatternChains.{apats_chain, pat_chain, pats_chain};
+ghost use Rattle.hs_trees.proofs.PatternChainLemmas.{apats_chain, pat_chain, pats_chain};
 ghost use Rattle.hs_readers.specs.Answers.{Answers, item_sort};
 ghost use Rattle.hs_readers.specs.declared.limit.PartsLimit.{PartsLimit};
 

@@ -5,7 +5,7 @@ ghost use Rattle.hs_forms.specs.Limits.{deepest};
 ghost use Rattle.hs_tokens.specs.Terminals.{is_arrow, is_comma};
 ghost use Rattle.hs_trees.specs.Types.{starts_atype, depth_of_btype, depth_of_parts, depth_of_type, atype_sort, btype_sort, parts_sort, type_sort, named_type};
 ghost use Rattle.hs_tokens.specs.declared.terminal.Terminal.TheVariants.{LeftParen, LeftBracket};
-ghost use Rattle.hs_trees.proofs.TypeChains.{btype_chain, parts_chain, type_chain};
+ghost use Rattle.hs_trees.proofs.TypeChainLemmas.{btype_chain, parts_chain, type_chain};
 ghost use Rattle.hs_readers.specs.Answers.{Answers, item_sort};
 
 use crate::chain::{Chained, read_chain};

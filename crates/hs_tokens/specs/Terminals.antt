@@ -1,5 +1,6 @@
 -- What the grammar sees of a token (Haskell 2010 Report, sections 2.4 and 10.2).
-use Rattle.std.specs.Prelude.{ℕ, Bool, true, false, ◌&&◌, ◌||◌, nat_le, List, [], ◌∷◌, Option, Some, None, is_some, unwrap_or, codes}
+use Rattle.std.specs.Prelude.{ℕ, Bool, true, false, ◌&&◌, ◌||◌, nat_le, List, [], ◌∷◌, Option, Some, None, is_some}
+use Rattle.std.specs.Prelude.{unwrap_or, codes}
 use Rattle.std.specs.Str.{bytes_eq}
 use Rattle.std.specs.Map.{lookup}
 use Rattle.hs_tokens.specs.declared.token.Token.{Token}
@@ -25,8 +26,10 @@ specials =
 -- the reserved symbols, and `_`
 abbrev pub symbols : List (List ℕ × Terminal)
 symbols =
-    (codes "_", t.Underscore) ∷ (codes ":", t.Colon) ∷ (codes "->", t.Arrow) ∷ (codes "<-", t.LeftArrow) ∷ (codes "=", t.Equals)
-    ∷ (codes "|", t.Bar) ∷ (codes "\\", t.Backslash) ∷ (codes "@", t.At) ∷ (codes "~", t.Tilde) ∷ (codes "::", t.DoubleColon)
+    (codes "_", t.Underscore) ∷ (codes ":", t.Colon) ∷ (codes "->", t.Arrow) ∷ (codes "<-", t.LeftArrow) ∷
+    (codes "=", t.Equals)
+    ∷ (codes "|", t.Bar) ∷ (codes "\\", t.Backslash) ∷ (codes "@", t.At) ∷ (codes "~", t.Tilde) ∷
+    (codes "::", t.DoubleColon)
     ∷ (codes "..", t.DotDot) ∷ (codes "=>", t.DoubleArrow) ∷ []
 
 abbrev pub special_of : List ℕ → Terminal

@@ -6,11 +6,13 @@ use Rattle.std.specs.Option.{option_or}
 use Rattle.hs_tokens.specs.declared.word.Word.{Word}
 use Rattle.hs_tokens.specs.declared.word.Word.TheVariants as w
 
--- the reserved words of declarations, those of expressions, and those of what this project leaves out, with their letters
+-- the reserved words of declarations, those of expressions, and those of what this project leaves out, with their
+-- letters
 abbrev pub declaration_words : List (List ℕ × Word)
 declaration_words =
     (codes "data", w.Data) ∷ (codes "import", w.Import) ∷ (codes "infix", w.Infix) ∷ (codes "infixl", w.Infixl)
-    ∷ (codes "infixr", w.Infixr) ∷ (codes "module", w.Module) ∷ (codes "newtype", w.Newtype) ∷ (codes "type", w.Type) ∷ []
+    ∷ (codes "infixr", w.Infixr) ∷ (codes "module", w.Module) ∷ (codes "newtype", w.Newtype) ∷ (codes "type", w.Type)
+    ∷ []
 
 abbrev pub expression_words : List (List ℕ × Word)
 expression_words =

@@ -1,9 +1,11 @@
--- Where a pattern before `<-` can end (Haskell 2010 Report, section 3.13: a guard is a pattern, `<-` and an expression, or an expression).
+-- Where a pattern before `<-` can end (Haskell 2010 Report, section 3.13: a guard is a pattern, `<-` and an expression,
+-- or an expression).
 use Rattle.std.specs.Prelude.{◌≡◌, ℕ, zero, suc, Bool, true, false, List, [], ◌∷◌, ◌++◌}
 use Rattle.hs_tokens.specs.declared.terminal.Terminal.{Terminal}
 use Rattle.hs_tokens.specs.declared.terminal.Terminal.TheVariants as t
 
--- Whether `<-` is the first token that stands in no pattern, or that is a comma or closing bracket outside of all brackets, so many being
+-- Whether `<-` is the first token that stands in no pattern, or that is a comma or closing bracket outside of all
+-- brackets, so many being
 -- open: `x : xs <- ys` makes a hit, and `x, y <- ys` makes none.
 abbrev pub hits : List Terminal → ℕ → Bool
 hits [] d = false

@@ -49,10 +49,18 @@ starts_akind k = is_star k
 
 -- The trees within a limit; each tree is well formed.
 abbrev pub akind_form : Option ℕ → Form Terminal AKindTree
-akind_form limit = record { tokens = spelling_akind; Good = λ x. Within limit (depth_of_akind x); extends = λ x k. false }
+akind_form limit = record {
+  tokens = spelling_akind;
+  Good = λ x. Within limit (depth_of_akind x);
+  extends = λ x k. false;
+}
 
 abbrev pub kind_form : Option ℕ → Form Terminal KindTree
-kind_form limit = record { tokens = spelling_kind; Good = λ x. Within limit (depth_of_kind x); extends = λ x k. is_arrow k }
+kind_form limit = record {
+  tokens = spelling_kind;
+  Good = λ x. Within limit (depth_of_kind x);
+  extends = λ x k. is_arrow k;
+}
 
 -- The forms with the depth of their trees.
 abbrev pub akind_sort : Option ℕ → Sort Terminal AKindTree

@@ -1,5 +1,7 @@
--- The grammar of patterns (Haskell 2010 Report, section 3.17.1): the tokens of a tree, how deep it is, and which trees there are.
-use Rattle.std.specs.Prelude.{◌≡◌, ℕ, zero, suc, ◌+◌, max, Bool, true, false, not, ◌&&◌, ◌||◌, nat_lt, List, [], ◌∷◌, ◌++◌, length, flat_map, map, replicate, Option}
+-- The grammar of patterns (Haskell 2010 Report, section 3.17.1): the tokens of a tree, how deep it is, and which trees
+-- there are.
+use Rattle.std.specs.Prelude.{◌≡◌, ℕ, zero, suc, ◌+◌, max, Bool, true, false, not, ◌&&◌, ◌||◌, nat_lt, List, [], ◌∷◌}
+use Rattle.std.specs.Prelude.{◌++◌, length, flat_map, map, replicate, Option}
 use Rattle.std.specs.Str.{bytes_eq}
 use Rattle.hs_forms.specs.Reading.{Form, begins}
 use Rattle.hs_forms.specs.Answers.{Sort}

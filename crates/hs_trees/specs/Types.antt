@@ -1,5 +1,6 @@
 -- The grammar of types: which tokens a tree stands for, how deep it is, and which trees there are.
-use Rattle.std.specs.Prelude.{◌≡◌, ℕ, zero, suc, ◌+◌, max, Bool, true, false, ◌&&◌, ◌||◌, nat_lt, List, [], ◌∷◌, ◌++◌, length, flat_map, replicate, map, Option}
+use Rattle.std.specs.Prelude.{◌≡◌, ℕ, zero, suc, ◌+◌, max, Bool, true, false, ◌&&◌, ◌||◌, nat_lt, List, [], ◌∷◌, ◌++◌}
+use Rattle.std.specs.Prelude.{length, flat_map, replicate, map, Option}
 use Rattle.hs_forms.specs.Reading.{Form}
 use Rattle.hs_forms.specs.Forms.{commas_form}
 use Rattle.hs_forms.specs.Answers.{Sort}
@@ -20,7 +21,8 @@ atype_tokens ATypeTree-F.ListCon = t.LeftBracket ∷ t.RightBracket ∷ []
 atype_tokens ATypeTree-F.ArrowCon = t.LeftParen ∷ t.Arrow ∷ t.RightParen ∷ []
 atype_tokens (ATypeTree-F.TupleCon commas) = t.LeftParen ∷ (replicate commas t.Comma ++ t.RightParen ∷ [])
 atype_tokens (ATypeTree-F.Var name) = t.Var name ∷ []
-atype_tokens (ATypeTree-F.Parts first rest) = t.LeftParen ∷ ((first ++ flat_map (λ part. t.Comma ∷ part) rest) ++ t.RightParen ∷ [])
+atype_tokens (ATypeTree-F.Parts first rest) = t.LeftParen ∷
+    ((first ++ flat_map (λ part. t.Comma ∷ part) rest) ++ t.RightParen ∷ [])
 atype_tokens (ATypeTree-F.List inner) = t.LeftBracket ∷ (inner ++ t.RightBracket ∷ [])
 
 abbrev pub btype_tokens : BTypeTree-F (List Terminal) (List Terminal) (List Terminal) → List Terminal

@@ -1,5 +1,5 @@
-mod Sameness
-pub mod Nodes
-mod Tables
-mod Written
-pub mod Numbering
+mod SamenessLemmas
+pub mod NodeLemmas
+mod TableLemmas
+mod WrittenLemmas
+pub mod NumberingLemmas

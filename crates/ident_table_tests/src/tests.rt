@@ -1,7 +1,7 @@
 ghost use Rattle.std.specs.Prelude.{◌<◌, length};
 
-use ident_table::*;
 use bp_base::{Fill, Ident, Name, Unit, same_ident};
+use ident_table::*;
 use sqlite_items::{Boxed, Items};
 use std::alloc::{AllocError, Global};
 use std::test::Fail;

@@ -1,1 +1,1 @@
-pub mod Renamed
+pub mod RenamedLemmas

@@ -1,7 +1,7 @@
 //! Worked entries.
-use mixin_names::{NameError, needs, provides};
 use bp_base::{Ident, Name, Names, Provision, Provisions, Rename, Renames};
 use cabal_component::{Mixin, Provides};
+use mixin_names::{NameError, needs, provides};
 use sqlite_items::Items;
 use std::alloc::{AllocError, Global};
 use std::test::Fail;

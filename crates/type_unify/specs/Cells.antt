@@ -1,5 +1,7 @@
--- A table of nodes in which the parts of an application stand by their numbers, and the types and bindings that it holds.
-use Rattle.std.specs.Prelude.{◌≡◌, ℕ, suc, ◌<◌, Bool, false, nat_eq, if◌then◌else◌, List, [], ◌∷◌, ◌++◌, length, Some, None}
+-- A table of nodes in which the parts of an application stand by their numbers, and the types and bindings that it
+-- holds.
+use Rattle.std.specs.Prelude.{◌≡◌, ℕ, suc, ◌<◌, Bool, false, nat_eq, if◌then◌else◌, List, [], ◌∷◌, ◌++◌, length, Some}
+use Rattle.std.specs.Prelude.{None}
 use Rattle.std.proofs.Common.{get_or}
 use Rattle.std.specs.Map.{lookup}
 use Rattle.type_terms.specs.Terms.{var, con, app}
@@ -33,7 +35,8 @@ built ts (c ∷ cs) = built (ts ++ made ts c ∷ []) cs
 unfoldable pub trees : List Cell → List Plain
 trees cs = built [] cs
 
--- the bindings that the entries make, each an unknown with the number of its type: a binding's type has the older ones applied
+-- the bindings that the entries make, each an unknown with the number of its type: a binding's type has the older ones
+-- applied
 abbrev pub bounds_after : List Plain → List Bound → List (ℕ × ℕ) → List Bound
 bounds_after ts bs [] = bs
 bounds_after ts bs (e ∷ es) = bounds_after ts (bs ++ record { id = e.0; term = resolved bs (at ts e.1) } ∷ []) es

@@ -17,11 +17,14 @@ AreNodesOf-nodes_of (var i) ts = refl
 AreNodesOf-nodes_of (con (rigid i)) ts = refl
 AreNodesOf-nodes_of (con (named n k)) ts = refl
 AreNodesOf-nodes_of (app f a) ts =
-    read-append ts (nodes_of f ++ nodes_of a) _ ∙ ap (λ r. joined r) (read-append ts (nodes_of f) (nodes_of a) ∙ ap (λ r. read r (nodes_of a)) (AreNodesOf-nodes_of f ts) ∙ AreNodesOf-nodes_of a (f ∷ ts))
+    read-append ts (nodes_of f ++ nodes_of a) _ ∙ ap (λ r. joined r) (read-append ts (nodes_of f) (nodes_of a)
+    ∙ ap (λ r. read r (nodes_of a)) (AreNodesOf-nodes_of f ts) ∙ AreNodesOf-nodes_of a (f ∷ ts))
 
 abbrev pub coded_plain : Coded Plain
-coded_plain = code_by (List Node) (coded_list node.the_row.coded) nodes_of spelled (λ t. ap top (AreNodesOf-nodes_of t []))
+coded_plain = code_by (List Node) (coded_list node.the_row.coded) nodes_of spelled
+    (λ t. ap top (AreNodesOf-nodes_of t []))
 
 abbrev pub coded_bounds : Coded (List Bound)
 coded_bounds =
-    coded_list (code_by (ℕ × Plain) (coded× coded_ℕ coded_plain) (λ b. (b.id, b.term)) (λ p. record { id = p.0; term = p.1 }) (λ _. refl))
+    coded_list (code_by (ℕ × Plain) (coded× coded_ℕ coded_plain) (λ b. (b.id, b.term))
+    (λ p. record { id = p.0; term = p.1 }) (λ _. refl))

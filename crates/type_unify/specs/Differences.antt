@@ -28,7 +28,8 @@ pub record PartsOf (cs : List Cell) (es : List (ℕ × ℕ)) (a b : ℕ) (fun ar
 -- one is a free unknown, and the other is the type of this number
 pub record BindOf (cs : List Cell) (es : List (ℕ × ℕ)) (a b x n : ℕ) : Type 0 where
   pub free : Free cs es x n
-  pub ends : (seen cs es a ≡ var x) × (seen cs es b ≡ seen cs es n) ⊎ (seen cs es b ≡ var x) × (seen cs es a ≡ seen cs es n)
+  pub ends : (seen cs es a ≡ var x) × (seen cs es b ≡ seen cs es n) ⊎ (seen cs es b ≡ var x)
+      × (seen cs es a ≡ seen cs es n)
 
 abbrev pub Tells : List Cell → List (ℕ × ℕ) → ℕ → ℕ → Difference → Type 0
 Tells cs es a b Equal = Same (seen cs es a) (seen cs es b)

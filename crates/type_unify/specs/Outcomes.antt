@@ -33,6 +33,8 @@ pub record Solved (cs : List Cell) (old new : List (ℕ × ℕ)) (a b : ℕ) : T
   pub stands : IsTable cs new
   pub keeps : (s : Assignment) → Solves s (bounds cs new) → Solves s (bounds cs old)
   pub equal : (s : Assignment) → Solves s (bounds cs new) → Equals s (at (trees cs) a) (at (trees cs) b)
-  pub all : (s : Assignment) → Solves s (bounds cs old) → Equals s (at (trees cs) a) (at (trees cs) b) → Solves s (bounds cs new)
+  pub all : (s : Assignment) → Solves s (bounds cs old) → Equals s (at (trees cs) a) (at (trees cs) b)
+      → Solves s (bounds cs new)
   pub tail : (more : List Bound) × (bounds cs new ≡ bounds cs old ++ more)
-  pub closed : (p : ℕ → Bool) (q : Head → Bool) → EveryBound p q (bounds cs old) → Every p q (at (trees cs) a) → Every p q (at (trees cs) b) → EveryBound p q (bounds cs new)
+  pub closed : (p : ℕ → Bool) (q : Head → Bool) → EveryBound p q (bounds cs old) → Every p q (at (trees cs) a)
+      → Every p q (at (trees cs) b) → EveryBound p q (bounds cs new)

@@ -80,6 +80,8 @@ pub record Follows (f : ℕ → Plain) (m : ℕ) (old new : List (ℕ × ℕ)) :
 -- equations that ask for one more binding
 pub record Asks (cs : List Cell) (es : List (ℕ × ℕ)) (old new : List (ℕ × ℕ)) (x n : ℕ) : Type 0 where
   pub free : Free cs es x n
-  pub same : (s : Assignment) → AllEqual s (seen cs es) old ↔ Equals s (var x) (seen cs es n) × AllEqual s (seen cs es) new
-  pub closed : (p : ℕ → Bool) (q : Head → Bool) → EveryPair p q (seen cs es) old → (p x ≡ true) × Every p q (seen cs es n) × EveryPair p q (seen cs es) new
+  pub same : (s : Assignment) → AllEqual s (seen cs es) old ↔ Equals s (var x) (seen cs es n)
+      × AllEqual s (seen cs es) new
+  pub closed : (p : ℕ → Bool) (q : Head → Bool) → EveryPair p q (seen cs es) old
+      → (p x ≡ true) × Every p q (seen cs es n) × EveryPair p q (seen cs es) new
   pub within : AllWithin (length cs) old → AllWithin (length cs) new

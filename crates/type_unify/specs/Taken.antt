@@ -25,7 +25,8 @@ joining swapped = if swapped then Swapped else App
 pub record Took (node : Node) (old new : List Cell) (before after : List ℕ) : Type 0 where
   pub extends : Extends old new
   pub below : Below (length old) before → Below (length new) after
-  pub types : Below (length old) before → types_of (at (trees new)) after ≡ read_node node (types_of (at (trees old)) before)
+  pub types : Below (length old) before → types_of (at (trees new)) after ≡ read_node node
+      (types_of (at (trees old)) before)
 
 -- the type stands in the table by its number
 pub record TakenIn (old new : List Cell) (t : Plain) (n : ℕ) : Type 0 where

@@ -1,9 +1,9 @@
-use type_unify::*;
 use bp_base::{Ident, Kind, Name, OrigName, Space, Unit};
 use sqlite_items::{Boxed, Items};
 use std::alloc::{AllocError, Global};
 use std::process::Abort;
 use std::test::Fail;
+use type_unify::*;
 
 /// A name of `base/Prelude`, of the kind of types.
 fn con(alloc: Global, text: &[u8]) -> Result<Term, AllocError> {

@@ -1,4 +1,4 @@
-pub mod Fills
-pub mod WellFormed
-pub mod ReadBack
-pub mod Exact
+pub mod FillLemmas
+pub mod WellFormedLemmas
+pub mod ReadBackLemmas
+pub mod ExactLemmas

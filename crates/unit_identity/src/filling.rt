@@ -20,7 +20,7 @@ pub fn filler<'a>(fills: &'a [Fill], hole: &Name) -> Option<&'a Ident>
 
 /// The identity with each hole replaced that has a fill.
 #[cycle(fill)]
-#[tactic(auto, using(crate::proofs::Fills::unit_equations))]
+#[tactic(auto, using(crate::proofs::FillLemmas::unit_equations))]
 pub fn fill(alloc: Global, ident: &Ident, fills: &Fills) -> Result<Ident, AllocError>
     ensures { IfOk result (λ r. r ≡ filled ident.now fills.now) }
 {
@@ -42,7 +42,7 @@ pub fn fill(alloc: Global, ident: &Ident, fills: &Fills) -> Result<Ident, AllocE
 }
 
 #[cycle(fill)]
-#[tactic(auto, using(crate::proofs::Fills::unit_equations))]
+#[tactic(auto, using(crate::proofs::FillLemmas::unit_equations))]
 pub fn fill_unit(alloc: Global, unit: &Unit, fills: &Fills) -> Result<Unit, AllocError>
     ensures { IfOk result (λ r. r ≡ filled_unit unit.now fills.now) }
 {

@@ -15,7 +15,7 @@ pub fn ident_text(alloc: Global, ident: &Ident) -> Result<Bytes, AllocError>
 }
 
 #[cycle(write)]
-#[tactic(auto, using(crate::proofs::ReadBack::text_equations))]
+#[tactic(auto, using(crate::proofs::ReadBackLemmas::text_equations))]
 fn write_ident(out: &mut Vec<u8>, ident: &Ident) -> Result<(), AllocError>
     ensures { OnOk result (out.new.items ≡ out.old.items ++ text ident.now) }
 {
@@ -36,7 +36,7 @@ fn write_ident(out: &mut Vec<u8>, ident: &Ident) -> Result<(), AllocError>
 }
 
 #[cycle(write)]
-#[tactic(auto, using(crate::proofs::ReadBack::text_equations))]
+#[tactic(auto, using(crate::proofs::ReadBackLemmas::text_equations))]
 fn write_unit(out: &mut Vec<u8>, unit: &Unit) -> Result<(), AllocError>
     ensures { OnOk result (out.new.items ≡ out.old.items ++ text_unit unit.now) }
 {

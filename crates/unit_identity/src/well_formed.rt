@@ -9,7 +9,7 @@ use std::cmp::Ordering;
 /// Whether each component, hole and module name in the identity has its form, and the holes of each unit in it strictly rise. It
 /// takes no memory.
 #[cycle(well_formed)]
-#[tactic(auto, using(crate::proofs::WellFormed::well_formed_equations))]
+#[tactic(auto, using(crate::proofs::WellFormedLemmas::well_formed_equations))]
 pub fn is_well_formed(ident: &Ident) -> bool
     ensures { result ≡ well_formed ident.now }
 {
@@ -23,7 +23,7 @@ pub fn is_well_formed(ident: &Ident) -> bool
 
 /// The same of a unit. It takes no memory.
 #[cycle(well_formed)]
-#[tactic(auto, using(crate::proofs::WellFormed::well_formed_equations))]
+#[tactic(auto, using(crate::proofs::WellFormedLemmas::well_formed_equations))]
 pub fn is_well_formed_unit(unit: &Unit) -> bool
     ensures { result ≡ well_formed_unit unit.now }
 {

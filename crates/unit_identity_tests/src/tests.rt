@@ -1,8 +1,8 @@
-use unit_identity::*;
 use bp_base::{Fill, Fills, Name, Unit, same_ident};
 use sqlite_items::Items;
 use std::alloc::Global;
 use std::test::Fail;
+use unit_identity::*;
 
 fn fills(alloc: Global, holes: &[(&[u8], &[u8])]) -> Result<Fills, IdentError> {
     let mut all = Items::new(alloc);

@@ -1,4 +1,4 @@
-use Rattle.cabal_lawful.proofs.Whole.{components_ok}
+use Rattle.cabal_lawful.proofs.WholeLemmas.{components_ok}
 use Rattle.cabal_lawful.proofs.components_are_lawful.Goals as goal
 
 pub returns : goal.returns

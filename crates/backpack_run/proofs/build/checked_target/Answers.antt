@@ -3,7 +3,7 @@ use Rattle.std.proofs.lemmas.Result.{err_from_is_err_and}
 use Rattle.bp_checks.specs.Check.{◌>>◌, given}
 use Rattle.bp_checks.proofs.TellsLemmas.{Tells-stopped}
 use Rattle.backpack_run.specs.Given.{read_target, typed}
-use Rattle.backpack_run.proofs.Counting.{counted}
+use Rattle.backpack_run.proofs.CountingLemmas.{counted}
 use Rattle.backpack_run.proofs.build.checked_target.Goals as goal
 
 pub returns-in_err-typed-clause-most : goal.returns-in_err-typed-clause-most

@@ -4,7 +4,7 @@ use Rattle.bp_base.specs.Texts.{Text}
 use Rattle.backpack_run.specs.Paths.{package_path}
 use Rattle.backpack_run.specs.Project.{IsPackage}
 use Rattle.bp_checks.specs.Refused.{Wrong}
-use Rattle.backpack_run.proofs.Refusals.{in_package, file_fails, then_passes, then_fails, carried}
+use Rattle.backpack_run.proofs.RefusalLemmas.{in_package, file_fails, then_passes, then_fails, carried}
 use Rattle.backpack_run.proofs.build.listed_module.Goals as goal
 
 pub returns-in_err-content-clause-tells : goal.returns-in_err-content-clause-tells

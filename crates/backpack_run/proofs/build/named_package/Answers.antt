@@ -3,7 +3,7 @@ use Rattle.std.proofs.lemmas.Result.{err_from_is_err_and}
 use Rattle.backpack_run.specs.Paths.{project_path}
 use Rattle.backpack_run.specs.Project.{IsProject}
 use Rattle.bp_checks.specs.Refused.{Wrong}
-use Rattle.backpack_run.proofs.Refusals.{in_project, file_fails, then_passes, then_fails, carried}
+use Rattle.backpack_run.proofs.RefusalLemmas.{in_project, file_fails, then_passes, then_fails, carried}
 use Rattle.backpack_run.proofs.build.named_package.Goals as goal
 
 pub returns-in_err-content-clause-tells : goal.returns-in_err-content-clause-tells

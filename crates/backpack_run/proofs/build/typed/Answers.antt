@@ -1,4 +1,4 @@
-use Rattle.backpack_run.proofs.Counting.{ill_refused}
+use Rattle.backpack_run.proofs.CountingLemmas.{ill_refused}
 use Rattle.backpack_run.proofs.build.typed.Goals as goal
 
 pub returns-in_ok-ill_typed-in-Err-IllTyped-clause-refusal : goal.returns-in_ok-ill_typed-in-Err-IllTyped-clause-refusal

@@ -1,6 +1,6 @@
 use Rattle.std.proofs.Common.{arith}
 use Rattle.std.proofs.lemmas.Grind.{common_steps}
-use Rattle.backpack_run.proofs.Lexing.{lex_step, lex_stuck, lex_end}
+use Rattle.backpack_run.proofs.LexingLemmas.{lex_step, lex_stuck, lex_end}
 use Rattle.backpack_run.proofs.lexer.tokens_of.Goals as goal
 
 pub returns-then-len-eq0 : goal.returns-then-len-eq0

@@ -1,4 +1,4 @@
-use Rattle.backpack_run.proofs.ReadingBack.{reads_back}
+use Rattle.backpack_run.proofs.ReadingBackLemmas.{reads_back}
 use Rattle.backpack_run.proofs.readback.flat_text_reads_back.Goals as goal
 
 pub returns : goal.returns

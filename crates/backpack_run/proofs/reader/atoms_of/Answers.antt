@@ -1,5 +1,5 @@
 use Rattle.backpack_run.specs.Source.{atom_of}
-use Rattle.backpack_run.proofs.Building.{no_atom, one_more_atom}
+use Rattle.backpack_run.proofs.BuildingLemmas.{no_atom, one_more_atom}
 use Rattle.backpack_run.proofs.reader.atoms_of.Goals as goal
 
 pub returns-in_default : goal.returns-in_default

@@ -1,5 +1,5 @@
 use Rattle.std.proofs.Common.{ap, length, arith}
-use Rattle.backpack_run.proofs.Building.{not_built, the_built}
+use Rattle.backpack_run.proofs.BuildingLemmas.{not_built, the_built}
 use Rattle.backpack_run.proofs.reader.binding_of.Goals as goal
 
 pub returns-in_default-3 : goal.returns-in_default-3

@@ -1,4 +1,4 @@
-use Rattle.backpack_run.proofs.Building.{item_step, no_build, items_end, items_none}
+use Rattle.backpack_run.proofs.BuildingLemmas.{item_step, no_build, items_end, items_none}
 use Rattle.backpack_run.proofs.reader.bindings_of.Goals as goal
 
 pub returns-in_default-2 : goal.returns-in_default-2

@@ -1,6 +1,6 @@
 use Rattle.std.proofs.Common.{length}
 use Rattle.bp_base.specs.Lists.{SoFar}
-use Rattle.backpack_run.proofs.Building.{Items}
+use Rattle.backpack_run.proofs.BuildingLemmas.{Items}
 use Rattle.backpack_run.proofs.reader.bindings_of.Given as goal
 
 abbrev pub invariant-loop-shape : goal.invariant-loop-shape

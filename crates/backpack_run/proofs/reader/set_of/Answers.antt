@@ -1,4 +1,4 @@
-use Rattle.backpack_run.proofs.Sets.{twice, set_more}
+use Rattle.backpack_run.proofs.SetLemmas.{twice, set_more}
 use Rattle.backpack_run.proofs.reader.set_of.Goals as goal
 
 pub returns-then-not-branch : goal.returns-then-not-branch

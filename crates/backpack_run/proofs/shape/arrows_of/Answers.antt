@@ -1,5 +1,5 @@
 use Rattle.std.proofs.Common.{arith}
-use Rattle.backpack_run.proofs.Shaping.{next_arrow, too_many_arrows, no_semicolon}
+use Rattle.backpack_run.proofs.ShapingLemmas.{next_arrow, too_many_arrows, no_semicolon}
 use Rattle.backpack_run.proofs.shape.arrows_of.Goals as goal
 
 pub returns-then-arrows-eq16 : goal.returns-then-arrows-eq16

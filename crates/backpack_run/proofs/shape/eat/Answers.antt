@@ -1,6 +1,6 @@
 use Rattle.std.proofs.Common.{◌≡◌, sym, ◌∙◌}
-use Rattle.bp_base.proofs.Texts.{same_texts}
-use Rattle.backpack_run.proofs.Shaping.{head_and_rest}
+use Rattle.bp_base.proofs.TextLemmas.{same_texts}
+use Rattle.backpack_run.proofs.ShapingLemmas.{head_and_rest}
 use Rattle.backpack_run.proofs.shape.eat.Goals as goal
 
 pub returns-then-eq : goal.returns-then-eq

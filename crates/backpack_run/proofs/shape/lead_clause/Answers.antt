@@ -1,4 +1,4 @@
-use Rattle.backpack_run.proofs.Shaping.{no_equals_behind, words_cut}
+use Rattle.backpack_run.proofs.ShapingLemmas.{no_equals_behind, words_cut}
 use Rattle.backpack_run.proofs.shape.lead_clause.Goals as goal
 
 pub returns-in_default : goal.returns-in_default

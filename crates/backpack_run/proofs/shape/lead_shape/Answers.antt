@@ -1,4 +1,4 @@
-use Rattle.backpack_run.proofs.Shaping.{no_clause, no_end_of, behind_shorter}
+use Rattle.backpack_run.proofs.ShapingLemmas.{no_clause, no_end_of, behind_shorter}
 use Rattle.backpack_run.proofs.shape.lead_shape.Goals as goal
 
 pub returns-in_default-clause-found : goal.returns-in_default-clause-found

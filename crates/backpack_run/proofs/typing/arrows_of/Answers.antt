@@ -1,5 +1,5 @@
 use Rattle.std.proofs.Common.{sym, ◌∙◌}
-use Rattle.backpack_run.proofs.Tables.{table_kept, table_more}
+use Rattle.backpack_run.proofs.TableLemmas.{table_kept, table_more}
 use Rattle.backpack_run.proofs.typing.arrows_of.Goals as goal
 
 pub loop-binding-preserved-then-contains_key : goal.loop-binding-preserved-then-contains_key

@@ -1,6 +1,6 @@
 use Rattle.std.proofs.Common.{arith}
 use Rattle.backpack_run.specs.Typing.{assumptions_of}
-use Rattle.backpack_run.proofs.Types.{first_ill, typed_next}
+use Rattle.backpack_run.proofs.TypeLemmas.{first_ill, typed_next}
 use Rattle.backpack_run.proofs.typing.check_each.Goals as goal
 
 pub returns-then-not-is_typed-clause-outcome : goal.returns-then-not-is_typed-clause-outcome

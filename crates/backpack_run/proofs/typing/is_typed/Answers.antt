@@ -1,5 +1,5 @@
 use Rattle.std.proofs.Common.{sym, ◌∙◌}
-use Rattle.backpack_run.proofs.Types.{typed_fits, fits_typed}
+use Rattle.backpack_run.proofs.TypeLemmas.{typed_fits, fits_typed}
 use Rattle.backpack_run.proofs.typing.is_typed.Goals as goal
 
 pub returns : goal.returns

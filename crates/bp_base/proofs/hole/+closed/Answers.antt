@@ -1,4 +1,4 @@
-use Rattle.bp_base.proofs.Holes.{closed-said}
+use Rattle.bp_base.proofs.HoleLemmas.{closed-said}
 use Rattle.bp_base.proofs.hole.+closed.Goals as goal
 
 pub is_closed-returns-in-Module : goal.is_closed-returns-in-Module

@@ -1,4 +1,4 @@
-use Rattle.bp_base.proofs.Holes.{has_hole-said}
+use Rattle.bp_base.proofs.HoleLemmas.{has_hole-said}
 use Rattle.bp_base.proofs.hole.+occurs.Goals as goal
 
 pub occurs-returns-in-Module : goal.occurs-returns-in-Module

@@ -1,6 +1,6 @@
 use Rattle.std.proofs.Common.{◌≡◌, rules}
 use Rattle.bp_base.specs.declared.ident.Unit.{out-Unit}
-use Rattle.bp_base.proofs.Idents.{units-same}
+use Rattle.bp_base.proofs.IdentLemmas.{units-same}
 use Rattle.bp_base.proofs.ident.+same.Goals as goal
 
 pub same_unit-returns-then-eq : goal.same_unit-returns-then-eq

@@ -1,4 +1,4 @@
-use Rattle.bp_base.proofs.Commas.{not_bracketed}
+use Rattle.bp_base.proofs.CommaLemmas.{not_bracketed}
 use Rattle.bp_base.proofs.special.bracketed.Goals as goal
 
 pub returns-in-None : goal.returns-in-None

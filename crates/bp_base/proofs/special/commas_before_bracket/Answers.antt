@@ -1,7 +1,7 @@
 use Rattle.std.proofs.Common.{sym, ap, ◌∙◌, [], ◌∷◌}
 use Rattle.std.specs.Str.{bytes_eq}
-use Rattle.bp_base.proofs.Texts.{other_texts}
-use Rattle.bp_base.proofs.Commas.{commas_end}
+use Rattle.bp_base.proofs.TextLemmas.{other_texts}
+use Rattle.bp_base.proofs.CommaLemmas.{commas_end}
 use Rattle.bp_base.proofs.special.commas_before_bracket.Goals as goal
 
 pub returns-else-eq : goal.returns-else-eq

@@ -5,4 +5,5 @@ use Rattle.cabal_text.specs.Tokens.{is_text}
 use Rattle.cabal_component.proofs.entries.close_len.Given as goal
 
 abbrev pub invariant-loop-i : goal.invariant-loop-i
-invariant-loop-i l = l.i + prefix_len (λ token. not (is_text token (codes ")"))) (drop l.i l.tokens) ≡ prefix_len (λ token. not (is_text token (codes ")"))) l.tokens
+invariant-loop-i l = l.i + prefix_len (λ token. not (is_text token (codes ")"))) (drop l.i l.tokens) ≡ prefix_len
+    (λ token. not (is_text token (codes ")"))) l.tokens

@@ -6,7 +6,8 @@ use Rattle.cabal_text.specs.Tokens.{items_at, each_read}
 use Rattle.cabal_component.proofs.entries.mixins_of.Given as goal
 
 abbrev pub invariant-loop-rest : goal.invariant-loop-rest
-invariant-loop-rest l = option_map (λ more. l.mixins ++ more) (each_read entry_of (items_at Round 0 l.rest)) ≡ mixins_of l.value
+invariant-loop-rest l = option_map (λ more. l.mixins ++ more)
+    (each_read entry_of (items_at Round 0 l.rest)) ≡ mixins_of l.value
 
 abbrev pub decreases-loop-rest : goal.decreases-loop-rest
 decreases-loop-rest l = length l.rest

@@ -6,4 +6,5 @@ use Rattle.cabal_component.proofs.include.all_included.Given as goal
 
 abbrev pub invariant-loop-dep : goal.invariant-loop-dep
 invariant-loop-dep l =
-    l.all ++ flat_map (included (entries_at l.table)) (drop l.dep-index l.deps) ≡ flat_map (included (entries_at l.table)) l.deps
+    l.all ++ flat_map (included (entries_at l.table)) (drop l.dep-index l.deps) ≡ flat_map
+    (included (entries_at l.table)) l.deps

@@ -6,4 +6,6 @@ use Rattle.cabal_component.specs.Package.{is_bad}
 use Rattle.cabal_component.proofs.package.bad_line.Given as goal
 
 abbrev pub invariant-loop-field : goal.invariant-loop-field
-invariant-loop-field l = sooner l.least (least_of (map (λ f. f.line) (filter (is_bad l.executable) (drop l.field-index l.fields)))) ≡ least_of (map (λ f. f.line) (filter (is_bad l.executable) l.fields))
+invariant-loop-field l = sooner l.least (least_of (map (λ f. f.line)
+    (filter (is_bad l.executable) (drop l.field-index l.fields)))) ≡ least_of
+    (map (λ f. f.line) (filter (is_bad l.executable) l.fields))

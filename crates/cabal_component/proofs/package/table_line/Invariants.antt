@@ -6,4 +6,6 @@ use Rattle.cabal_component.specs.Package.{is_table_field}
 use Rattle.cabal_component.proofs.package.table_line.Given as goal
 
 abbrev pub invariant-loop-field : goal.invariant-loop-field
-invariant-loop-field l = sooner l.least (least_of (map (λ f. f.line) (filter (λ f. is_table_field f.name) (drop l.field-index l.fields)))) ≡ least_of (map (λ f. f.line) (filter (λ f. is_table_field f.name) l.fields))
+invariant-loop-field l = sooner l.least (least_of (map (λ f. f.line)
+    (filter (λ f. is_table_field f.name) (drop l.field-index l.fields)))) ≡ least_of
+    (map (λ f. f.line) (filter (λ f. is_table_field f.name) l.fields))

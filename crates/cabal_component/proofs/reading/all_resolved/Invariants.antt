@@ -5,4 +5,5 @@ use Rattle.cabal_component.specs.Reading.{resolved}
 use Rattle.cabal_component.proofs.reading.all_resolved.Given as goal
 
 abbrev pub invariant-loop-name : goal.invariant-loop-name
-invariant-loop-name l = l.all ++ map (resolved l.owner (contains bytes_eq l.own)) (drop l.name-index l.names) ≡ map (resolved l.owner (contains bytes_eq l.own)) l.names
+invariant-loop-name l = l.all ++ map (resolved l.owner (contains bytes_eq l.own)) (drop l.name-index l.names) ≡ map
+    (resolved l.owner (contains bytes_eq l.own)) l.names

@@ -11,7 +11,9 @@ use Rattle.cabal_component.proofs.reading.components_of.Goals as goal
 pub returns : goal.returns
 returns c =
     let fields : c.deref.result.now ≡ fields_at 0 c.args.lines.now = c.deref.ensures.value ∙ c.in_ok-fields.ensures in
-    let owner : c.in_ok-owner.owner ≡ package_of (fields_at 0 c.args.lines.now) = c.in_ok-owner.ensures ∙ ap package_of fields in
+    let owner : c.in_ok-owner.owner ≡ package_of (fields_at 0 c.args.lines.now) = c.in_ok-owner.ensures
+    ∙ ap package_of fields in
     let names : c.as_slice.result.now ≡ own_libraries c.args.lines.now = c.as_slice.ensures ∙ c.in_ok-names.ensures in
-    let own : contains bytes_eq c.in_ok-own.own ≡ is_own c.args.lines.now = fun_ext (λ q. c.in_ok-own.ensures q ∙ ap (is_among q) names) in
+    let own : contains bytes_eq c.in_ok-own.own ≡ is_own c.args.lines.now =
+    fun_ext (λ q. c.in_ok-own.ensures q ∙ ap (is_among q) names) in
     rw (owner, own) at c.components_in.ensures

@@ -6,4 +6,5 @@ use Rattle.cabal_lawful.proofs.lawful.are_lawful_entries.Given as goal
 
 abbrev pub invariant-loop-mixin : goal.invariant-loop-mixin
 invariant-loop-mixin l =
-    are_lawful_entries (contains bytes_eq l.deps) (drop l.mixin-index l.mixins) ≡ are_lawful_entries (contains bytes_eq l.deps) l.mixins
+    are_lawful_entries (contains bytes_eq l.deps) (drop l.mixin-index l.mixins) ≡ are_lawful_entries
+    (contains bytes_eq l.deps) l.mixins

@@ -10,5 +10,6 @@ pub returns : goal.returns
 unfolding climbs
 returns c =
     any_from_yields_List (λ part. pointwise ◌==◌ part (codes "..")) _ _ c.any.result c.any.ensures.ran
-    (YieldsList-from_slice_split _ (λ b. b == 47) c.args.item.now c.split.ensures.rest c.split.ensures.done c.split.ensures.closure (λ x r q k. search (rules, tests)))
+    (YieldsList-from_slice_split _ (λ b. b == 47) c.args.item.now c.split.ensures.rest c.split.ensures.done
+    c.split.ensures.closure (λ x r q k. search (rules, tests)))
     (λ x b q k. search (rules, tests))

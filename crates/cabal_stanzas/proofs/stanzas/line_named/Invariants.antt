@@ -6,4 +6,6 @@ use Rattle.cabal_text.specs.Least.{least_of, sooner}
 use Rattle.cabal_stanzas.proofs.stanzas.line_named.Given as goal
 
 abbrev pub invariant-loop-field : goal.invariant-loop-field
-invariant-loop-field l = sooner l.least (least_of (map (λ f. f.line) (filter (λ f. is_word f.name l.name) (drop l.field-index l.fields)))) ≡ least_of (map (λ f. f.line) (filter (λ f. is_word f.name l.name) l.fields))
+invariant-loop-field l = sooner l.least (least_of (map (λ f. f.line)
+    (filter (λ f. is_word f.name l.name) (drop l.field-index l.fields)))) ≡ least_of
+    (map (λ f. f.line) (filter (λ f. is_word f.name l.name) l.fields))

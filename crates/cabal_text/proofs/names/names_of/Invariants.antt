@@ -6,7 +6,8 @@ use Rattle.cabal_text.specs.Tokens.{items_at, each_read}
 use Rattle.cabal_text.proofs.names.names_of.Given as goal
 
 abbrev pub invariant-loop-rest : goal.invariant-loop-rest
-invariant-loop-rest l = option_map (λ more. l.names ++ more) (each_read name_of (items_at Round 0 l.rest)) ≡ names_of l.tokens
+invariant-loop-rest l = option_map (λ more. l.names ++ more)
+    (each_read name_of (items_at Round 0 l.rest)) ≡ names_of l.tokens
 
 abbrev pub decreases-loop-rest : goal.decreases-loop-rest
 decreases-loop-rest l = length l.rest

@@ -1,4 +1,4 @@
-use Rattle.haskell_layout.proofs.Matching as matching
+use Rattle.haskell_layout.proofs.MatchingLemmas as matching
 use Rattle.haskell_layout.proofs.laws.braces_match.Goals as goal
 
 pub returns : goal.returns

@@ -1,4 +1,4 @@
-use Rattle.haskell_layout.proofs.Staying as staying
+use Rattle.haskell_layout.proofs.StayingLemmas as staying
 use Rattle.haskell_layout.proofs.laws.braces_stay.Goals as goal
 
 pub returns : goal.returns

@@ -1,4 +1,4 @@
-use Rattle.haskell_layout.proofs.Standing.{given_stand}
+use Rattle.haskell_layout.proofs.StandingLemmas.{given_stand}
 use Rattle.haskell_layout.proofs.laws.given_tokens_stand.Goals as goal
 
 pub returns : goal.returns

@@ -1,4 +1,4 @@
-use Rattle.hs_trees.proofs.KindUnique.{one_kind}
+use Rattle.hs_trees.proofs.KindUniqueLemmas.{one_kind}
 use Rattle.haskell_parse.proofs.parse_kinds.one_kind.Goals as goal
 
 pub returns : goal.returns

@@ -1,4 +1,4 @@
-use Rattle.hs_trees.proofs.PatternHits.{bind_hits, follow_misses, no_bind}
+use Rattle.hs_trees.proofs.PatternHitLemmas.{bind_hits, follow_misses, no_bind}
 use Rattle.haskell_parse.proofs.parse_pats.no_bind.Goals as goal
 
 pub returns-clause-hit : goal.returns-clause-hit

@@ -1,4 +1,4 @@
-use Rattle.hs_trees.proofs.PatternUnique.{one_pattern}
+use Rattle.hs_trees.proofs.PatternUniqueLemmas.{one_pattern}
 use Rattle.haskell_parse.proofs.parse_pats.one_pat.Goals as goal
 
 pub returns : goal.returns

@@ -1,4 +1,4 @@
-use Rattle.hs_trees.proofs.TypeUnique.{one_type}
+use Rattle.hs_trees.proofs.TypeUniqueLemmas.{one_type}
 use Rattle.haskell_parse.proofs.parse_types.one_type.Goals as goal
 
 pub returns : goal.returns

@@ -10,5 +10,6 @@ returns-in_err-read g c =
 pub returns-else-is_empty : goal.returns-else-is_empty
 returns-else-is_empty g c =
     let sort = g.T.Readable.sort c.args.limit in
-    whole_of_rest sort.form sort.depth c.args.tokens.now c.in_ok-read.read.tree c.in_ok-read.read.rest.now _ c.in_ok-read.ensures
+    whole_of_rest sort.form sort.depth c.args.tokens.now c.in_ok-read.read.tree c.in_ok-read.read.rest.now _
+    c.in_ok-read.ensures
     (some_length c.is_empty.result c.in_ok-read.read.rest.now c.is_empty.ensures c.if-is_empty.false)

@@ -1,7 +1,7 @@
 use Rattle.std.proofs.Common.{length, sym, ap, ◌∙◌, subst, arith}
 use Rattle.ident_table.specs.Numbers.{fills_of, AreFillsBelow}
-use Rattle.hole_unify.proofs.Places.{Among-built}
-use Rattle.hole_unify.proofs.Filling.{answer-step, answer-end}
+use Rattle.hole_unify.proofs.PlaceLemmas.{Among-built}
+use Rattle.hole_unify.proofs.FillingLemmas.{answer-step, answer-end}
 use Rattle.hole_unify.proofs.answer.list_answer.Goals as goal
 
 pub put_built-requires-clause-built : goal.put_built-requires-clause-built

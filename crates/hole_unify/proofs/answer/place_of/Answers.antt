@@ -2,7 +2,7 @@ use Rattle.std.proofs.Common.{◌+◌, ◌-◌, ap, sym, ◌∙◌, arith}
 use Rattle.std.specs.Prelude.{◌/◌}
 use Rattle.std.specs.Ordering.{nat_cmp, is_lt}
 use Rattle.std.specs.Cmp.Lexicographic.{slice_cmp}
-use Rattle.hole_unify.proofs.Filling.{place-after, place-before, place-within}
+use Rattle.hole_unify.proofs.FillingLemmas.{place-after, place-before, place-within}
 use Rattle.hole_unify.proofs.answer.place_of.Goals as goal
 
 pub loop-low-init : goal.loop-low-init

@@ -2,7 +2,7 @@ use Rattle.std.proofs.Common.{◌≡◌, false, drop, ap, sym, ◌∙◌, subst,
 use Rattle.std.specs.List.{insert}
 use Rattle.ident_table.specs.declared.node.NumberFill.{NumberFill}
 use Rattle.hole_unify.specs.Stages.{number_place, is_first, Puts}
-use Rattle.hole_unify.proofs.Filling.{place-within, puts-known, puts-new}
+use Rattle.hole_unify.proofs.FillingLemmas.{place-within, puts-known, puts-new}
 use Rattle.hole_unify.proofs.answer.put_fill.Goals as goal
 
 pub returns-then-is_hole_at : goal.returns-then-is_hole_at

@@ -5,7 +5,7 @@ use Rattle.std.proofs.lemmas.List.{length-replicate}
 use Rattle.hole_unify.specs.Table.{nodes_of}
 use Rattle.hole_unify.specs.Stages.{IsStage}
 use Rattle.hole_unify.specs.Build.{built_of, first_ready, AreBuiltBelow}
-use Rattle.hole_unify.proofs.Stages.{first-stage, first-stands, moved-follows}
+use Rattle.hole_unify.proofs.StageLemmas.{first-stage, first-stands, moved-follows}
 use Rattle.hole_unify.proofs.build.build.Goals as goal
 
 pub build_all-requires : goal.build_all-requires

@@ -1,4 +1,4 @@
-use Rattle.hole_unify.proofs.Stages.{follows-more, steps-follow, pass-fewer, pass-none}
+use Rattle.hole_unify.proofs.StageLemmas.{follows-more, steps-follow, pass-fewer, pass-none}
 use Rattle.hole_unify.proofs.build.build_all.Goals as goal
 
 pub passes-smaller : goal.passes-smaller

@@ -2,8 +2,8 @@ use Rattle.std.proofs.Common.{ℕ, ◌<◌, List, length, get_or, subst, ap, sym
 use Rattle.std.specs.Prelude.{Option}
 use Rattle.std.specs.Option.{option_map}
 use Rattle.hole_unify.specs.Stages.{ready_entry, unbuilt_classes, IsStage, Follows}
-use Rattle.hole_unify.proofs.Tables.{Among-get_or}
-use Rattle.hole_unify.proofs.Stages.{class-stage, class-follows, class-fewer}
+use Rattle.hole_unify.proofs.TableLemmas.{Among-get_or}
+use Rattle.hole_unify.proofs.StageLemmas.{class-stage, class-follows, class-fewer}
 use Rattle.hole_unify.proofs.build.build_class_of.Goals as goal
 
 pub set_built-requires : goal.set_built-requires

@@ -1,4 +1,4 @@
-use Rattle.hole_unify.proofs.Tables.{Among-read}
+use Rattle.hole_unify.proofs.TableLemmas.{Among-read}
 use Rattle.hole_unify.proofs.build.build_fills.Goals as goal
 
 pub built_for-requires-clause-number : goal.built_for-requires-clause-number

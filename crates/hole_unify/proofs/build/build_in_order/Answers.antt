@@ -1,4 +1,4 @@
-use Rattle.hole_unify.proofs.Stages.{follows-more, moved-stage, moved-follows}
+use Rattle.hole_unify.proofs.StageLemmas.{follows-more, moved-stage, moved-follows}
 use Rattle.hole_unify.proofs.build.build_in_order.Goals as goal
 use Rattle.hole_unify.proofs.build.build_in_order.Goals.{then-class-len+in_ok-build_some, else-class-len}
 

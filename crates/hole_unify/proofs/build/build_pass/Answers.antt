@@ -1,6 +1,6 @@
 use Rattle.std.proofs.Common.{◌≡◌, ◌||◌, subst, arith}
 use Rattle.hole_unify.specs.Stages.{Steps}
-use Rattle.hole_unify.proofs.Stages.{pass-step, pass-end, or-then, or-else}
+use Rattle.hole_unify.proofs.StageLemmas.{pass-step, pass-end, or-then, or-else}
 use Rattle.hole_unify.proofs.build.build_pass.Goals as goal
 use Rattle.hole_unify.proofs.build.build_pass.Goals.{then-branch, else-branch}
 

@@ -1,4 +1,4 @@
-use Rattle.hole_unify.proofs.Stages.{follows-more, steps-follow, moved-stage, moved-follows}
+use Rattle.hole_unify.proofs.StageLemmas.{follows-more, steps-follow, moved-stage, moved-follows}
 use Rattle.hole_unify.proofs.build.build_some.Goals as goal
 use Rattle.hole_unify.proofs.build.build_some.Goals.{then-number-classes+in_ok-build_class_of, else-number-classes}
 

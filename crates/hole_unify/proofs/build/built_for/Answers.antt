@@ -1,5 +1,5 @@
 use Rattle.std.proofs.Common.{◌<◌, length, get_or, rules, arith}
-use Rattle.hole_unify.proofs.Tables.{Among-get_or}
+use Rattle.hole_unify.proofs.TableLemmas.{Among-get_or}
 use Rattle.hole_unify.proofs.build.built_for.Goals as goal
 
 pub offset_bounds-built-class : goal.offset_bounds-built-class

@@ -1,5 +1,5 @@
 use Rattle.std.proofs.Common.{◌≡◌, true, false, arith, sym, ◌∙◌}
-use Rattle.hole_unify.proofs.Stages.{module-here, module-step, module-none}
+use Rattle.hole_unify.proofs.StageLemmas.{module-here, module-step, module-none}
 use Rattle.hole_unify.proofs.build.class_has_module.Goals as goal
 use Rattle.hole_unify.proofs.build.class_has_module.Goals.{else-each-class-via-then-each-class+else-is_module_at}
 use Rattle.hole_unify.proofs.build.class_has_module.Goals.{else-each-class-via-else-each-class}

@@ -2,7 +2,7 @@ use Rattle.std.proofs.Common.{arith, ap, sym, ◌∙◌}
 use Rattle.hole_unify.specs.Reach.{lesser}
 use Rattle.hole_unify.specs.Build.{hole_of, number_built}
 use Rattle.hole_unify.specs.Stages.{hole_at}
-use Rattle.hole_unify.proofs.Stages.{least-here, least-step, least-end}
+use Rattle.hole_unify.proofs.StageLemmas.{least-here, least-step, least-end}
 use Rattle.hole_unify.proofs.build.find_least_hole.Goals as goal
 use Rattle.hole_unify.proofs.build.find_least_hole.Goals.{then-each-class, else-each-class}
 

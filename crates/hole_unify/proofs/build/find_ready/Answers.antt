@@ -6,7 +6,7 @@ use Rattle.ident_table.specs.Numbers.{node_of, IsNodeBelow}
 use Rattle.hole_unify.specs.Table.{nodes_of}
 use Rattle.hole_unify.specs.Build.{built_of}
 use Rattle.hole_unify.specs.Stages.{numbers_built, made_of}
-use Rattle.hole_unify.proofs.Stages.{hole-found, hole-below, hole-ready, module-ready, module-below}
+use Rattle.hole_unify.proofs.StageLemmas.{hole-found, hole-below, hole-ready, module-ready, module-below}
 use Rattle.hole_unify.proofs.build.find_ready.Goals as goal
 
 pub ready_module-requires-clause-fills : goal.ready_module-requires-clause-fills

@@ -1,5 +1,5 @@
 use Rattle.std.proofs.Common.{◌<◌, length, arith}
-use Rattle.hole_unify.proofs.Numbering.{join-step}
+use Rattle.hole_unify.proofs.NumberingLemmas.{join-step}
 use Rattle.hole_unify.proofs.classes.join.Goals as goal
 
 pub loop-class-preserved : goal.loop-class-preserved

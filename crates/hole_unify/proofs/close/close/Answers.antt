@@ -1,7 +1,7 @@
 use Rattle.std.proofs.Common.{◌≡◌, length, ap, ◌∙◌, rules, arith}
 use Rattle.std.proofs.lemmas.Grind.{common_steps}
-use Rattle.hole_unify.proofs.Closings.{started, ended, clash-met, step-met, step-less, taken-below, rest-below}
-use Rattle.hole_unify.proofs.Numbering.{upto-length}
+use Rattle.hole_unify.proofs.CloseLemmas.{started, ended, clash-met, step-met, step-less, taken-below, rest-below}
+use Rattle.hole_unify.proofs.NumberingLemmas.{upto-length}
 use Rattle.hole_unify.proofs.close.close.Goals as goal
 
 pub steps-init : goal.steps-init

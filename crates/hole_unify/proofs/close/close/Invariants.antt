@@ -1,7 +1,7 @@
 use Rattle.std.proofs.Common.{◌≡◌, length}
 use Rattle.hole_unify.specs.Table.{nodes_of}
 use Rattle.hole_unify.specs.Close.{pairs_of, ArePairsBelow}
-use Rattle.hole_unify.proofs.Closings.{AreClosing, measure}
+use Rattle.hole_unify.proofs.CloseLemmas.{AreClosing, measure}
 use Rattle.hole_unify.proofs.close.close.Given as goal
 
 abbrev pub invariant-steps : goal.invariant-steps

@@ -1,4 +1,4 @@
-use Rattle.hole_unify.proofs.Pairing.{compared-heads, compared-pairs, compared-below}
+use Rattle.hole_unify.proofs.PairingLemmas.{compared-heads, compared-pairs, compared-below}
 use Rattle.hole_unify.proofs.close.compare_classes.Goals as goal
 
 pub returns-in_ok-heads-in-Some-find_module-clause-heads :

@@ -1,7 +1,7 @@
 use Rattle.std.proofs.Common.{rules, ◌≡◌, ◌&&◌, false, nat_eq, get_or, arith}
 use Rattle.ident_table.specs.Numbers.{ident_of}
 use Rattle.hole_unify.specs.Table.{is_module}
-use Rattle.hole_unify.proofs.Numbering.{module-step, module-none}
+use Rattle.hole_unify.proofs.NumberingLemmas.{module-step, module-none}
 use Rattle.hole_unify.proofs.close.find_module.Goals as goal
 use Rattle.hole_unify.proofs.close.find_module.Goals.{else-each-class-via-then-each-class+else-is_module_at}
 use Rattle.hole_unify.proofs.close.find_module.Goals.{else-each-class-via-else-each-class}

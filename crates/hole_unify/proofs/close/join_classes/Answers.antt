@@ -1,6 +1,6 @@
 use Rattle.std.proofs.Common.{ap, ◌∙◌}
 use Rattle.hole_unify.specs.Table.{nodes_of}
-use Rattle.hole_unify.proofs.Numbering.{nodes_of-moved}
+use Rattle.hole_unify.proofs.NumberingLemmas.{nodes_of-moved}
 use Rattle.hole_unify.proofs.close.join_classes.Goals as goal
 
 pub returns-clause-classes : goal.returns-clause-classes

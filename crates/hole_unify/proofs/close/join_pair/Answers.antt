@@ -2,7 +2,7 @@ use Rattle.std.proofs.Common.{◌≡◌, ◌++◌}
 use Rattle.std.specs.Prelude.{IfOk}
 use Rattle.hole_unify.specs.Table.{nodes_of}
 use Rattle.hole_unify.specs.Close.{pairs_of, classes_pairs, classes_heads, classes_moved}
-use Rattle.hole_unify.proofs.Numbering.{at-numbers}
+use Rattle.hole_unify.proofs.NumberingLemmas.{at-numbers}
 use Rattle.hole_unify.proofs.close.join_pair.Goals as goal
 
 pub returns-clause-heads : goal.returns-clause-heads

@@ -1,6 +1,6 @@
 use Rattle.std.proofs.Common.{ap, ◌∙◌, arith}
 use Rattle.bp_base.specs.declared.ident.Unit.{out-Unit}
-use Rattle.hole_unify.proofs.Lawfulness.{fills-step, ident-step}
+use Rattle.hole_unify.proofs.LawfulnessLemmas.{fills-step, ident-step}
 use Rattle.hole_unify.proofs.lawful.+list.Goals as goal
 
 pub list_fills-loop-each-preserved : goal.list_fills-loop-each-preserved

@@ -1,4 +1,4 @@
-use Rattle.hole_unify.proofs.Lawfulness.{lawful-found}
+use Rattle.hole_unify.proofs.LawfulnessLemmas.{lawful-found}
 use Rattle.hole_unify.proofs.lawful.are_lawful.Goals as goal
 
 pub returns : goal.returns

@@ -1,5 +1,5 @@
 use Rattle.std.proofs.Common.{arith}
-use Rattle.hole_unify.proofs.Lawfulness.{equations-step}
+use Rattle.hole_unify.proofs.LawfulnessLemmas.{equations-step}
 use Rattle.hole_unify.proofs.lawful.list_equations.Goals as goal
 
 pub loop-each-preserved : goal.loop-each-preserved

@@ -1,4 +1,4 @@
-use Rattle.hole_unify.proofs.Agreement.{answers_are_one}
+use Rattle.hole_unify.proofs.AgreementLemmas.{answers_are_one}
 use Rattle.hole_unify.proofs.laws.answers_are_one.Goals as goal
 
 pub returns : goal.returns

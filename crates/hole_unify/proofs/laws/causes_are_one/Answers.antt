@@ -1,4 +1,4 @@
-use Rattle.hole_unify.proofs.Causes.{causes_are_one}
+use Rattle.hole_unify.proofs.CauseLemmas.{causes_are_one}
 use Rattle.hole_unify.proofs.laws.causes_are_one.Goals as goal
 
 pub returns : goal.returns

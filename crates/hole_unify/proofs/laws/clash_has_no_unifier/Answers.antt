@@ -1,4 +1,4 @@
-use Rattle.hole_unify.proofs.Unifying.{clash_has_no_unifier}
+use Rattle.hole_unify.proofs.UnifyingLemmas.{clash_has_no_unifier}
 use Rattle.hole_unify.proofs.laws.clash_has_no_unifier.Goals as goal
 
 pub returns : goal.returns

@@ -1,4 +1,4 @@
-use Rattle.hole_unify.proofs.Causes.{no_cause_beside_answer}
+use Rattle.hole_unify.proofs.CauseLemmas.{no_cause_beside_answer}
 use Rattle.hole_unify.proofs.laws.no_cause_beside_answer.Goals as goal
 
 pub returns : goal.returns

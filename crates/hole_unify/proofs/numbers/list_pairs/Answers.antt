@@ -1,5 +1,5 @@
 use Rattle.std.proofs.Common.{◌≡◌, arith}
-use Rattle.hole_unify.proofs.Listing.{listing-step, all-listed, listed-terms}
+use Rattle.hole_unify.proofs.ListingLemmas.{listing-step, all-listed, listed-terms}
 use Rattle.hole_unify.proofs.numbers.list_pairs.Goals as goal
 
 pub loop-place-preserved : goal.loop-place-preserved

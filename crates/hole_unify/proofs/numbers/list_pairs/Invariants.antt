@@ -1,5 +1,5 @@
 use Rattle.std.proofs.Common.{◌≤◌, length, drop}
-use Rattle.hole_unify.proofs.Listing.{IsListed}
+use Rattle.hole_unify.proofs.ListingLemmas.{IsListed}
 use Rattle.hole_unify.proofs.numbers.list_pairs.Given as goal
 
 abbrev pub invariant-loop-place : goal.invariant-loop-place

@@ -1,4 +1,4 @@
-use Rattle.hole_unify.proofs.Listing.{numbered-sides}
+use Rattle.hole_unify.proofs.ListingLemmas.{numbered-sides}
 use Rattle.hole_unify.proofs.numbers.number_sides.Goals as goal
 
 pub returns : goal.returns

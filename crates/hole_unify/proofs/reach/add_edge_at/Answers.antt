@@ -1,5 +1,5 @@
 use Rattle.std.proofs.Common.{◌<◌, length, sym, ◌∙◌, arith}
-use Rattle.hole_unify.proofs.Fillers.{number-below}
+use Rattle.hole_unify.proofs.FillerLemmas.{number-below}
 use Rattle.hole_unify.proofs.reach.add_edge_at.Goals as goal
 
 pub offset_bounds-classes-number : goal.offset_bounds-classes-number

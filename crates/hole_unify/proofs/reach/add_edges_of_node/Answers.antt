@@ -1,5 +1,5 @@
 use Rattle.std.proofs.Common.{length}
-use Rattle.hole_unify.proofs.Edges.{module-fills}
+use Rattle.hole_unify.proofs.EdgeLemmas.{module-fills}
 use Rattle.hole_unify.proofs.reach.add_edges_of_node.Goals as goal
 
 pub add_edges_of_fills-requires : goal.add_edges_of_fills-requires

@@ -1,5 +1,5 @@
 use Rattle.std.proofs.Common.{length, arith}
-use Rattle.hole_unify.proofs.Ranks.{edge-ends, fall-more}
+use Rattle.hole_unify.proofs.RankLemmas.{edge-ends, fall-more}
 use Rattle.hole_unify.proofs.reach.do_ranks_fall.Goals as goal
 
 pub offset_bounds-ranks-edge : goal.offset_bounds-ranks-edge

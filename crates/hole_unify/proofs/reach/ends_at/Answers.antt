@@ -1,4 +1,4 @@
-use Rattle.hole_unify.proofs.Searching.{item-at}
+use Rattle.hole_unify.proofs.SearchingLemmas.{item-at}
 use Rattle.hole_unify.proofs.reach.ends_at.Goals as goal
 
 pub returns : goal.returns

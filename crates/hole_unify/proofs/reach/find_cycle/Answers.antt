@@ -1,5 +1,5 @@
 use Rattle.hole_unify.specs.Table.{nodes_of}
-use Rattle.hole_unify.proofs.Ranks.{no-least-cycle}
+use Rattle.hole_unify.proofs.RankLemmas.{no-least-cycle}
 use Rattle.hole_unify.proofs.reach.find_cycle.Goals as goal
 
 pub returns-then-do_ranks_fall : goal.returns-then-do_ranks_fall

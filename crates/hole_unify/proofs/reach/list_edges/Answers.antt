@@ -1,5 +1,5 @@
 use Rattle.std.proofs.Common.{◌<◌, ◌≤◌, length, arith}
-use Rattle.hole_unify.proofs.Edges.{edges-step, edges-end, node-below}
+use Rattle.hole_unify.proofs.EdgeLemmas.{edges-step, edges-end, node-below}
 use Rattle.hole_unify.proofs.reach.list_edges.Goals as goal
 
 pub add_edges_of_node-requires : goal.add_edges_of_node-requires

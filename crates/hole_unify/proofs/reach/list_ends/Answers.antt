@@ -1,6 +1,6 @@
 use Rattle.std.proofs.Common.{◌<◌, length, ◌∙◌, arith}
-use Rattle.hole_unify.proofs.Searching.{lists-length}
-use Rattle.hole_unify.proofs.Ends.{upto-none, edge-at, ends-pushed}
+use Rattle.hole_unify.proofs.SearchingLemmas.{lists-length}
+use Rattle.hole_unify.proofs.ClosesToLemmas.{upto-none, edge-at, ends-pushed}
 use Rattle.hole_unify.proofs.reach.list_ends.Goals as goal
 
 pub loop-edge-init : goal.loop-edge-init

@@ -2,7 +2,8 @@ use Rattle.std.proofs.Common.{◌≡◌, ◌<◌, ◌≤◌, length, map, false,
 use Rattle.std.proofs.lemmas.Grind.{common_steps}
 use Rattle.std.proofs.lemmas.List.{length-map, length-replicate}
 use Rattle.hole_unify.specs.Reach.{AreBelow, free}
-use Rattle.hole_unify.proofs.Searching.{rows-below, class-below, search-started, search-stepped, search-end, free-none}
+use Rattle.hole_unify.proofs.SearchingLemmas.{rows-below, class-below, search-started, search-stepped, search-end}
+use Rattle.hole_unify.proofs.SearchingLemmas.{free-none}
 use Rattle.hole_unify.proofs.reach.reach.Goals as goal
 
 pub visit_all-requires-clause-below : goal.visit_all-requires-clause-below

@@ -1,6 +1,6 @@
 use Rattle.std.proofs.Common.{◌≡◌, ◌+◌, ◌-◌, length, map}
 use Rattle.hole_unify.specs.Reach.{Agree, free}
-use Rattle.hole_unify.proofs.Searching.{IsSearch}
+use Rattle.hole_unify.proofs.SearchingLemmas.{IsSearch}
 use Rattle.hole_unify.proofs.reach.reach.Given as goal
 
 abbrev pub invariant-classes : goal.invariant-classes

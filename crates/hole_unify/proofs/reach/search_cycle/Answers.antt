@@ -1,5 +1,5 @@
 use Rattle.std.proofs.Common.{◌<◌, ◌≤◌, length, refl, arith}
-use Rattle.hole_unify.proofs.Searching.{find-below, find-class, find-ends, find-step, find-end}
+use Rattle.hole_unify.proofs.SearchingLemmas.{find-below, find-class, find-ends, find-step, find-end}
 use Rattle.hole_unify.proofs.reach.search_cycle.Goals as goal
 
 pub better_hole-requires-clause-class : goal.better_hole-requires-clause-class

@@ -1,4 +1,4 @@
-use Rattle.hole_unify.proofs.Searching.{agree-pushed, free-pushed}
+use Rattle.hole_unify.proofs.SearchingLemmas.{agree-pushed, free-pushed}
 use Rattle.hole_unify.proofs.reach.visit.Goals as goal
 
 pub returns-in_ok-push-clause-marked : goal.returns-in_ok-push-clause-marked

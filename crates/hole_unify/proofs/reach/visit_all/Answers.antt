@@ -1,5 +1,5 @@
 use Rattle.std.proofs.Common.{◌<◌, length, slice_index_or, arith}
-use Rattle.hole_unify.proofs.Tables.{Among-get_or}
+use Rattle.hole_unify.proofs.TableLemmas.{Among-get_or}
 use Rattle.hole_unify.proofs.reach.visit_all.Goals as goal
 
 pub visit-requires-clause-below : goal.visit-requires-clause-below

@@ -1,5 +1,5 @@
 use Rattle.std.proofs.Common.{length, refl}
-use Rattle.hole_unify.proofs.Solving.{range-start}
+use Rattle.hole_unify.proofs.SolvingLemmas.{range-start}
 use Rattle.hole_unify.proofs.solve.first_obstacle.Goals as goal
 
 pub loop-range-init : goal.loop-range-init

@@ -1,6 +1,6 @@
 use Rattle.std.proofs.Common.{◌+◌, ◌-◌, ◌/◌, take, subst}
 use Rattle.hole_unify.specs.Solve.{IsSettlement}
-use Rattle.hole_unify.proofs.Solving.{half-low, lawful-take}
+use Rattle.hole_unify.proofs.SolvingLemmas.{half-low, lawful-take}
 use Rattle.hole_unify.proofs.solve.halve.Goals as goal
 
 pub returns-in-Free-clause-bounds : goal.returns-in-Free-clause-bounds

@@ -1,6 +1,6 @@
 use Rattle.std.proofs.Common.{ap, sym, ◌∙◌, subst}
 use Rattle.hole_unify.specs.Causes.{IsCause}
-use Rattle.hole_unify.proofs.Solving.{cause}
+use Rattle.hole_unify.proofs.SolvingLemmas.{cause}
 use Rattle.hole_unify.proofs.solve.refusal.Goals as goal
 
 pub returns : goal.returns

@@ -2,8 +2,9 @@ use Rattle.std.proofs.Common.{◌≡◌, length, ap, ◌∙◌, rules, arith}
 use Rattle.std.proofs.lemmas.Grind.{common_steps}
 use Rattle.hole_unify.specs.Table.{nodes_of}
 use Rattle.hole_unify.specs.Close.{IsSettled}
-use Rattle.hole_unify.proofs.Numbering.{upto-length}
-use Rattle.hole_unify.proofs.Settling.{written, read-length, read-below, read-ends, read-cycle, found-cycle, found-none}
+use Rattle.hole_unify.proofs.NumberingLemmas.{upto-length}
+use Rattle.hole_unify.proofs.SettlingLemmas.{written, read-length, read-below, read-ends, read-cycle, found-cycle}
+use Rattle.hole_unify.proofs.SettlingLemmas.{found-none}
 use Rattle.hole_unify.proofs.solve.settle.Goals as goal
 
 pub list_edges-requires : goal.list_edges-requires

@@ -2,8 +2,8 @@ use Rattle.std.proofs.Common.{length, sym, ◌∙◌, [], subst}
 use Rattle.hole_unify.specs.Table.{nodes_of}
 use Rattle.hole_unify.specs.Build.{built_of, AreBuiltBelow, answer}
 use Rattle.hole_unify.specs.Solve.{IsFree, IsSettlement}
-use Rattle.hole_unify.proofs.Settling.{read-below}
-use Rattle.hole_unify.proofs.Solving.{answer-found}
+use Rattle.hole_unify.proofs.SettlingLemmas.{read-below}
+use Rattle.hole_unify.proofs.SolvingLemmas.{answer-found}
 use Rattle.hole_unify.proofs.solve.unify_shared.Goals as goal
 
 pub build-requires-clause-classes : goal.build-requires-clause-classes

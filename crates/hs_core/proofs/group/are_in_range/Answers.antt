@@ -5,4 +5,5 @@ use Rattle.hs_core.specs.Groups.{InRange}
 use Rattle.hs_core.proofs.group.are_in_range.Goals as goal
 
 pub returns : goal.returns
-returns c = subst (λ (g : List UseList). IsTrue c.all_in_range.result ↔ InRange g) c.as_slice.ensures c.all_in_range.ensures
+returns c = subst (λ (g : List UseList). IsTrue c.all_in_range.result
+    ↔ InRange g) c.as_slice.ensures c.all_in_range.ensures

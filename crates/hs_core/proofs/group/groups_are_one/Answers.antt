@@ -1,4 +1,4 @@
-use Rattle.hs_core.proofs.OneGrouping.{groups-are-one}
+use Rattle.hs_core.proofs.OneGroupingLemmas.{groups-are-one}
 use Rattle.hs_core.proofs.group.groups_are_one.Goals as goal
 
 pub returns : goal.returns

@@ -1,5 +1,5 @@
 use Rattle.std.proofs.Common.{◌≡◌, ℕ, length, replicate, false, ap, ◌∙◌, arith}
-use Rattle.hs_core.proofs.Grouping.{at-rest}
+use Rattle.hs_core.proofs.GroupingLemmas.{at-rest}
 use Rattle.hs_core.proofs.group.nothing_walked.Goals as goal
 
 pub returns-clause-rest : goal.returns-clause-rest

@@ -1,6 +1,6 @@
 use Rattle.std.specs.Prelude.{reverse}
 use Rattle.hs_core.specs.Walking.{IsOnWay}
-use Rattle.hs_core.proofs.Pending.{steps-left}
+use Rattle.hs_core.proofs.PendingLemmas.{steps-left}
 use Rattle.hs_core.proofs.group.walk.Given as goal
 
 abbrev pub invariant-steps : goal.invariant-steps

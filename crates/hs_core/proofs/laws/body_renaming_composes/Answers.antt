@@ -1,4 +1,4 @@
-use Rattle.hs_core.proofs.TreesTwice.{body-twice}
+use Rattle.hs_core.proofs.TreesTwiceLemmas.{body-twice}
 use Rattle.hs_core.proofs.laws.body_renaming_composes.Goals as goal
 
 pub returns : goal.returns

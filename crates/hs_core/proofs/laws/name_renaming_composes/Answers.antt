@@ -1,4 +1,4 @@
-use Rattle.hs_core.proofs.Twice.{name-twice}
+use Rattle.hs_core.proofs.TwiceLemmas.{name-twice}
 use Rattle.hs_core.proofs.laws.name_renaming_composes.Goals as goal
 
 pub returns : goal.returns

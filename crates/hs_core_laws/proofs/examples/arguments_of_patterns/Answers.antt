@@ -1,4 +1,4 @@
-use Rattle.hs_core_laws.proofs.Smaller.{arguments_are_counted}
+use Rattle.hs_core_laws.proofs.SmallerLemmas.{arguments_are_counted}
 use Rattle.hs_core_laws.proofs.examples.arguments_of_patterns.Goals as goal
 
 pub returns : goal.returns

@@ -1,4 +1,4 @@
-use Rattle.hs_core_laws.proofs.SeveralClauses.{clauses_are_typed}
+use Rattle.hs_core_laws.proofs.SeveralClauseLemmas.{clauses_are_typed}
 use Rattle.hs_core_laws.proofs.examples.clauses.Goals as goal
 
 pub returns : goal.returns

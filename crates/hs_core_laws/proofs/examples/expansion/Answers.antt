@@ -1,4 +1,4 @@
-use Rattle.hs_core_laws.proofs.Smaller.{string_expands}
+use Rattle.hs_core_laws.proofs.SmallerLemmas.{string_expands}
 use Rattle.hs_core_laws.proofs.examples.expansion.Goals as goal
 
 pub returns : goal.returns

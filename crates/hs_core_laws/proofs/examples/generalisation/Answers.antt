@@ -1,5 +1,5 @@
-use Rattle.hs_core_laws.proofs.Derivations.{let_is_generalised}
-use Rattle.hs_core_laws.proofs.Refuting.{lambda_is_not_generalised}
+use Rattle.hs_core_laws.proofs.DerivationLemmas.{let_is_generalised}
+use Rattle.hs_core_laws.proofs.RefutingLemmas.{lambda_is_not_generalised}
 use Rattle.hs_core_laws.proofs.examples.generalisation.Goals as goal
 
 pub returns-clause-typed : goal.returns-clause-typed

@@ -1,4 +1,4 @@
-use Rattle.hs_core_laws.proofs.Refuting.{kinds_are_kept}
+use Rattle.hs_core_laws.proofs.RefutingLemmas.{kinds_are_kept}
 use Rattle.hs_core_laws.proofs.examples.kinds_of_variables.Goals as goal
 
 pub returns : goal.returns

@@ -1,4 +1,4 @@
-use Rattle.hs_core_laws.proofs.Smaller.{kinds_are_least}
+use Rattle.hs_core_laws.proofs.SmallerLemmas.{kinds_are_least}
 use Rattle.hs_core_laws.proofs.examples.least_kinds.Goals as goal
 
 pub returns : goal.returns

@@ -1,4 +1,4 @@
-use Rattle.hs_core_laws.proofs.Smaller.{values_match}
+use Rattle.hs_core_laws.proofs.SmallerLemmas.{values_match}
 use Rattle.hs_core_laws.proofs.examples.matching.Goals as goal
 
 pub returns : goal.returns

@@ -1,6 +1,6 @@
-use Rattle.hs_core_laws.proofs.Smaller.{rigid_variables_stay}
-use Rattle.hs_core_laws.proofs.Derivations.{identity_is_typed}
-use Rattle.hs_core_laws.proofs.Refuting.{conversion_is_not_typed}
+use Rattle.hs_core_laws.proofs.SmallerLemmas.{rigid_variables_stay}
+use Rattle.hs_core_laws.proofs.DerivationLemmas.{identity_is_typed}
+use Rattle.hs_core_laws.proofs.RefutingLemmas.{conversion_is_not_typed}
 use Rattle.hs_core_laws.proofs.examples.rigid_variables.Goals as goal
 
 pub returns-clause-typed : goal.returns-clause-typed

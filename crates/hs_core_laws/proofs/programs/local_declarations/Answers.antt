@@ -1,4 +1,5 @@
-use Rattle.hs_core_laws.proofs.LocalExamples.{group_after_group_is_typed, polymorphic_recursion_is_typed, where_is_seen_in_guards}
+use Rattle.hs_core_laws.proofs.LocalExamples.{group_after_group_is_typed, polymorphic_recursion_is_typed}
+use Rattle.hs_core_laws.proofs.LocalExamples.{where_is_seen_in_guards}
 use Rattle.hs_core_laws.proofs.programs.local_declarations.Goals as goal
 
 pub returns-clause-groups : goal.returns-clause-groups

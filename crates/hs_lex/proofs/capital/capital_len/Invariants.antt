@@ -1,7 +1,7 @@
 use Rattle.std.proofs.Common.{◌≡◌, ◌+◌, false, length}
 use Rattle.hs_lex.specs.Classes.{is_in, begins}
 use Rattle.hs_lex.specs.declared.class.Class.TheVariants.{Name}
-use Rattle.hs_lex.proofs.Capitals.{Ahead}
+use Rattle.hs_lex.proofs.CapitalLemmas.{Ahead}
 use Rattle.hs_lex.proofs.capital.capital_len.Given as goal
 
 abbrev pub invariant-parts : goal.invariant-parts

@@ -1,4 +1,4 @@
-use Rattle.hs_lex.proofs.Levels.{is_checked, not_checked}
+use Rattle.hs_lex.proofs.LevelLemmas.{is_checked, not_checked}
 use Rattle.hs_lex.proofs.comment.checked_kind.Goals as goal
 
 pub returns-in-Ok : goal.returns-in-Ok

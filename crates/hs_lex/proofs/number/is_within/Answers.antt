@@ -1,9 +1,13 @@
 use Rattle.std.proofs.Common.{arith}
-use Rattle.hs_lex.proofs.Numbers.{value_exceeds}
+use Rattle.hs_lex.proofs.NumberLemmas.{value_exceeds}
 use Rattle.hs_lex.proofs.number.is_within.Goals as goal
 
 pub returns-in_default-next_value : goal.returns-in_default-next_value
-returns-in_default-next_value c = value_exceeds c.args.base c.digits.value _ c.args.limit c.in-Some.byte.now c.digits.left.now c.in-Some.rest.now c.requires c.in-Some.ensures.cases.0 c.digits.invariant.same (omega (arith, c.in_default-next_value.ensures))
+returns-in_default-next_value c = value_exceeds c.args.base c.digits.value _ c.args.limit c.in-Some.byte.now
+    c.digits.left.now c.in-Some.rest.now c.requires c.in-Some.ensures.cases.0 c.digits.invariant.same
+    (omega (arith, c.in_default-next_value.ensures))
 
 pub returns-then-next-limit : goal.returns-then-next-limit
-returns-then-next-limit c = value_exceeds c.args.base c.digits.value _ c.args.limit c.in-Some.byte.now c.digits.left.now c.in-Some.rest.now c.requires c.in-Some.ensures.cases.0 c.digits.invariant.same (omega (arith, c.if-next-limit.true, c.in-Some-next_value.ensures))
+returns-then-next-limit c = value_exceeds c.args.base c.digits.value _ c.args.limit c.in-Some.byte.now c.digits.left.now
+    c.in-Some.rest.now c.requires c.in-Some.ensures.cases.0 c.digits.invariant.same
+    (omega (arith, c.if-next-limit.true, c.in-Some-next_value.ensures))

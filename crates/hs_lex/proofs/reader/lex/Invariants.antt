@@ -1,5 +1,5 @@
 use Rattle.std.proofs.Common.{length}
-use Rattle.hs_lex.proofs.Covers.{SoFar}
+use Rattle.hs_lex.proofs.CoverLemmas.{SoFar}
 use Rattle.hs_lex.proofs.reader.lex.Given as goal
 
 abbrev pub invariant-pieces : goal.invariant-pieces

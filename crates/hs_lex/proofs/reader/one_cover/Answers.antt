@@ -1,4 +1,4 @@
-use Rattle.hs_lex.proofs.Uniqueness.{one_cover as all_one}
+use Rattle.hs_lex.proofs.UniquenessLemmas.{one_cover as all_one}
 use Rattle.hs_lex.proofs.reader.one_cover.Goals as goal
 
 pub returns : goal.returns

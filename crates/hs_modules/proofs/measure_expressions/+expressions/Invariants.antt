@@ -1,6 +1,7 @@
 use Rattle.std.proofs.Common.{◌≡◌, take}
 use Rattle.hs_modules.specs.Measures.{all_measured}
-use Rattle.hs_modules.specs.Measured.{measure_of_exp, measure_of_link, measure_of_aexp, measure_of_alt_slot, measure_of_gda, measure_of_guard, measure_of_decl_slot, measure_of_gd}
+use Rattle.hs_modules.specs.Measured.{measure_of_exp, measure_of_link, measure_of_aexp, measure_of_alt_slot}
+use Rattle.hs_modules.specs.Measured.{measure_of_gda, measure_of_guard, measure_of_decl_slot, measure_of_gd}
 use Rattle.hs_modules.proofs.measure_expressions.+expressions.Given as goal
 
 abbrev pub invariant-measure_exps-loop-each : goal.invariant-measure_exps-loop-each

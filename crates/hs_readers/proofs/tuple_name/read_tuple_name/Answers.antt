@@ -31,7 +31,9 @@ returns-in-None-clause-answers c =
     let ts = c.args.tokens.now in
     let n = c.count_commas-commas.result in
     let split : ts ≡ replicate n t.Comma ++ c.after.result.now =
-    rw c.count_commas-commas.ensures.value (commas_split ts) ∙ ap (λ l. replicate n t.Comma ++ l) (sym c.after.ensures) in
+    rw c.count_commas-commas.ensures.value (commas_split ts)
+    ∙ ap (λ l. replicate n t.Comma ++ l) (sym c.after.ensures) in
     subst (Rejects tuple_name_form ts) (ap length c.after.ensures ∙ length-drop n ts)
-    (commas_open t.Comma t.RightParen is_comma is_right_paren refl refl refl 15 ts n c.after.result.now split (omega arith)
+    (commas_open t.Comma t.RightParen is_comma is_right_paren refl refl refl 15 ts n c.after.result.now split
+    (omega arith)
     (rw (c.after.ensures, c.count_commas-commas.ensures.value) (commas_stop ts)) c.in-None.ensures)

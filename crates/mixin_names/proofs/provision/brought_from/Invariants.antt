@@ -6,4 +6,5 @@ use Rattle.mixin_names.proofs.provision.brought_from.Given as goal
 
 abbrev pub invariant-loop-item : goal.invariant-loop-item
 invariant-loop-item l =
-    l.found ++ flat_map (brought (provisions_at l.table)) (drop l.item-index l.items) ≡ flat_map (brought (provisions_at l.table)) l.items
+    l.found ++ flat_map (brought (provisions_at l.table)) (drop l.item-index l.items) ≡ flat_map
+    (brought (provisions_at l.table)) l.items

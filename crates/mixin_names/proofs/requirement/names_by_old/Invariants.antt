@@ -6,4 +6,5 @@ use Rattle.mixin_names.proofs.requirement.names_by_old.Given as goal
 
 abbrev pub invariant-loop-each : goal.invariant-loop-each
 invariant-loop-each l =
-    (q : List ℕ) → unwrap_or (get bytes_eq l.table q) (linkage_name (drop l.each-index l.needs) q) ≡ linkage_name l.needs q
+    (q : List ℕ) → unwrap_or (get bytes_eq l.table q)
+    (linkage_name (drop l.each-index l.needs) q) ≡ linkage_name l.needs q

@@ -4,4 +4,5 @@ use Rattle.indexmap.proofs.CallerLemmas.{insert_entry-new}
 use Rattle.type_unify.proofs.solve.bind.Goals as goal
 
 pub returns-clause-ok : goal.returns-clause-ok
-returns-clause-ok c = c.in_ok-insert.ensures.entries ∙ insert_entry-new nat_eq c.args.entries.now c.args.id c.args.to c.requires
+returns-clause-ok c = c.in_ok-insert.ensures.entries
+    ∙ insert_entry-new nat_eq c.args.entries.now c.args.id c.args.to c.requires

@@ -1,6 +1,6 @@
 use Rattle.std.proofs.Common.{◌^◌}
 use Rattle.type_unify.specs.Cells.{bounds}
-use Rattle.type_unify.proofs.Runs.{Reached, unbound_below}
+use Rattle.type_unify.proofs.RunLemmas.{Reached, unbound_below}
 use Rattle.type_unify.proofs.solve.solve.Given as goal
 
 abbrev pub invariant-bindings : goal.invariant-bindings

@@ -7,7 +7,8 @@ use Rattle.type_unify.proofs.spell.spell.Given as goal
 abbrev pub invariant-loop-task : goal.invariant-loop-task
 invariant-loop-task l = record {
   within : TasksBelow (length l.cells) l.tasks.items;
-  same : l.out.items ++ written (seen l.cells l.entries.entries) l.tasks.items ≡ l.fn.out.items ++ nodes_of (seen l.cells l.entries.entries l.start);
+  same : l.out.items ++ written (seen l.cells l.entries.entries) l.tasks.items ≡ l.fn.out.items
+      ++ nodes_of (seen l.cells l.entries.entries l.start);
 }
 
 abbrev pub decreases-loop-task : goal.decreases-loop-task

@@ -1,6 +1,6 @@
 use Rattle.std.proofs.Common.{take}
 use Rattle.type_unify.specs.Taken.{IsLonger}
-use Rattle.type_unify.proofs.Taking.{Reading}
+use Rattle.type_unify.proofs.TakingLemmas.{Reading}
 use Rattle.type_unify.proofs.take_in.take_in.Given as goal
 
 abbrev pub invariant-loop-node : goal.invariant-loop-node

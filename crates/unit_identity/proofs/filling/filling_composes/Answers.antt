@@ -1,4 +1,4 @@
-use Rattle.unit_identity.proofs.Fills.{filled-filled}
+use Rattle.unit_identity.proofs.FillLemmas.{filled-filled}
 use Rattle.unit_identity.proofs.filling.filling_composes.Goals as goal
 
 pub returns : goal.returns

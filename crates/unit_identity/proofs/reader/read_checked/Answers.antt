@@ -1,4 +1,4 @@
-use Rattle.unit_identity.proofs.Exact.{none-read, other-read, untrue}
+use Rattle.unit_identity.proofs.ExactLemmas.{none-read, other-read, untrue}
 use Rattle.unit_identity.proofs.reader.read_checked.Goals as goal
 
 pub returns-in-None : goal.returns-in-None

@@ -1,4 +1,4 @@
-use Rattle.unit_identity.proofs.ReadBack.{wrote-Module, wrote-unit}
+use Rattle.unit_identity.proofs.ReadBackLemmas.{wrote-Module, wrote-unit}
 use Rattle.unit_identity.proofs.text.+write.Goals as goal
 
 pub write_ident-returns-in_ok-extend_from_slice-in-Module : goal.write_ident-returns-in_ok-extend_from_slice-in-Module

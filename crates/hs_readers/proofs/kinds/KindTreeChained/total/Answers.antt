@@ -3,4 +3,5 @@ use Rattle.hs_trees.proofs.KindLemmas.{kind_deep}
 use Rattle.hs_readers.proofs.kinds.KindTreeChained.total.Goals as goal
 
 pub returns-clause-exact : goal.returns-clause-exact
-returns-clause-exact c = λ limit h xs count deep. omega (arith, count, deep, kind_deep (record { first = h; rest = xs }))
+returns-clause-exact c = λ limit h xs count deep. omega
+    (arith, count, deep, kind_deep (record { first = h; rest = xs }))

@@ -1,5 +1,5 @@
 use Rattle.std.proofs.Common.{arith}
-use Rattle.hs_trees.proofs.PatternLayers.{pat_deep}
+use Rattle.hs_trees.proofs.PatternLayerLemmas.{pat_deep}
 use Rattle.hs_readers.proofs.patterns.PatTreeChained.total.Goals as goal
 
 pub returns-clause-exact : goal.returns-clause-exact

@@ -1,5 +1,5 @@
 use Rattle.std.proofs.Common.{sym, ◌∙◌}
-use Rattle.hs_trees.proofs.TypeLayers.{btype_deep}
+use Rattle.hs_trees.proofs.TypeLayerLemmas.{btype_deep}
 use Rattle.hs_readers.proofs.types.BTypeTreeChained.total.Goals as goal
 
 pub returns-clause-exact : goal.returns-clause-exact

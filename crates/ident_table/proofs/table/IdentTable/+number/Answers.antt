@@ -3,7 +3,7 @@ use Rattle.std.proofs.lemmas.List.{take_all}
 use Rattle.bp_base.specs.declared.ident.Ident.TheVariants.{Module}
 use Rattle.ident_table.specs.Parts.{terms_in_fills}
 use Rattle.ident_table.specs.Numbers.{fills_of, AreFillsBelow}
-use Rattle.ident_table.proofs.Numbering.{Adds, hole-parts, module-parts, number-step}
+use Rattle.ident_table.proofs.NumberingLemmas.{Adds, hole-parts, module-parts, number-step}
 use Rattle.ident_table.proofs.table.IdentTable.+number.Goals as goal
 
 pub number-number_module-requires : goal.number-number_module-requires

@@ -1,6 +1,6 @@
 use Rattle.std.proofs.Common.{arith, subst, sym}
 use Rattle.ident_table.specs.Numbers.{AreFillsBelow, IsNodeBelow}
-use Rattle.ident_table.proofs.Written.{fill-below, written-step}
+use Rattle.ident_table.proofs.WrittenLemmas.{fill-below, written-step}
 use Rattle.ident_table.proofs.table.IdentTable.+written.Goals as goal
 
 pub fills_below-ident_at-requires : goal.fills_below-ident_at-requires

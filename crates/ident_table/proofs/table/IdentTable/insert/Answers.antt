@@ -1,7 +1,7 @@
 use Rattle.std.proofs.Common.{[], subst, sym}
 use Rattle.ident_table.specs.Numbers.{idents_of, IsIdentTable}
-use Rattle.ident_table.proofs.Nodes.{IsIdentTable-nodes}
-use Rattle.ident_table.proofs.Tables.{inserted, ident-found}
+use Rattle.ident_table.proofs.NodeLemmas.{IsIdentTable-nodes}
+use Rattle.ident_table.proofs.TableLemmas.{inserted, ident-found}
 use Rattle.ident_table.proofs.table.IdentTable.insert.Goals as goal
 
 pub returns-in_err-number-clause-table : goal.returns-in_err-number-clause-table

@@ -1,6 +1,6 @@
 use Rattle.std.proofs.Common.{length, ap, sym, subst, ◌∙◌}
 use Rattle.ident_table.specs.Numbers.{IsIdentTable}
-use Rattle.ident_table.proofs.Nodes.{length-idents, IsIdentTable-nodes}
+use Rattle.ident_table.proofs.NodeLemmas.{length-idents, IsIdentTable-nodes}
 use Rattle.ident_table.proofs.table.IdentTable.len.Goals as goal
 
 pub returns-clause-len : goal.returns-clause-len

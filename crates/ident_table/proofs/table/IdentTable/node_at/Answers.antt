@@ -1,7 +1,7 @@
 use Rattle.std.proofs.Common.{◌≡◌, ◌<◌, length, subst, sym}
 use Rattle.std.specs.Prelude.{slice_get, Some}
 use Rattle.ident_table.specs.Numbers.{node_of}
-use Rattle.ident_table.proofs.Nodes.{length-idents, ident-of-node}
+use Rattle.ident_table.proofs.NodeLemmas.{length-idents, ident-of-node}
 use Rattle.ident_table.proofs.table.IdentTable.node_at.Goals as goal
 
 pub index-requires : goal.index-requires

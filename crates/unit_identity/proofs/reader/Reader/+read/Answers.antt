@@ -1,6 +1,6 @@
 use Rattle.std.proofs.Common.{ap, sym, ◌∙◌}
 use Rattle.unit_identity.specs.Reading.{with_rest}
-use Rattle.unit_identity.proofs.ReadBack.{last-read, more-read}
+use Rattle.unit_identity.proofs.ReadBackLemmas.{last-read, more-read}
 use Rattle.unit_identity.proofs.reader.Reader.+read.Goals as goal
 
 pub read_fills-returns : goal.read_fills-returns
