@@ -250,13 +250,10 @@ module _ (nodes : List Node) (built : List (Option Ident)) (one : (t : Ident) (k
         here : (m : Text) (l : ℕ) (i : Ident) → In (x ∷ rest) (Hole m) l → built_at l built ≡ Some i → at_hole m new ≡ i
         here m l i (y, inr h, j, c) d = a.here m l i (y, h, j, c) d
         here m l i (y, inl e, j, c) d =
-            let names : n ≡ m = Hole-one n m (sym is ∙ ap (λ v. v.ident) e ∙ j) in
+            let names : n ≡ m = Hole-name n m (sym is ∙ ap (λ v. v.ident) e ∙ j) in
             let class : x.class ≡ l = ap (λ v. v.class) e ∙ c in
             let t-is : t ≡ i = same_Some t i (sym b ∙ ap (λ z. built_at z built) class ∙ d) in
             subst (λ z. at_hole z new ≡ i) names (a.kept n t x.class p b k.here ∙ t-is)
-          where
-            Hole-one : (v w : Text) → Hole v ≡ Hole w → v ≡ w
-            Hole-one v w e = cc
 
     answers : (rest : List Node) (fs : List Fill) → ((x : Node) → Among x rest → Among x nodes) → IsFills fs
         → FillsRest rest fs (answer built rest fs)

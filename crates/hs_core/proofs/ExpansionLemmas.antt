@@ -68,7 +68,7 @@ abbrev AllFull : Synonyms → List TypeTerm → Type 0
 AllFull S [] = Unit {0}
 AllFull S (t ∷ ts) = IsFullyApplied S t 0 × AllFull S ts
 
-le_both : (a b c : ℕ) → a ≤ b → b ≤ c → a ≤ c
+pub le_both : (a b c : ℕ) → a ≤ b → b ≤ c → a ≤ c
 le_both a b c p q = Prim.omega arith
 
 full_with_more : (S : Synonyms) (t : TypeTerm) (m n : ℕ) → m ≤ n → IsFullyApplied S t m → IsFullyApplied S t n

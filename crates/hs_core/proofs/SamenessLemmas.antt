@@ -15,7 +15,7 @@ use Rattle.bp_base.specs.declared.ident.Fill.{Fill}
 use Rattle.bp_base.specs.declared.ty.OrigName.{OrigName}
 use Rattle.bp_base.specs.declared.ty.Space.{Space}
 use Rattle.bp_base.specs.declared.ty.Space.TheVariants.{Types, Values}
-use Rattle.bp_base.proofs.IdentLemmas.{unit-same}
+use Rattle.bp_base.proofs.IdentLemmas.{unit-same, component-is}
 use Rattle.hs_core.specs.Sameness.{same_space, same_identity, same_units, same_filling, same_original}
 use denote.Hole.Carrier.{out, shown}
 use mathlib.Core.Former.{list_count, this, none_left}
@@ -53,15 +53,10 @@ unfolding out-Unit out shown-the_row-Fill-1 shown
 unit_fills c [] end_of-Fill = refl
 unit_fills c (x ∷ s) (more_of-Fill h i r) = ap (λ l. record { hole = h; ident = i } ∷ l) (unit_fills c s r)
 
-unit_component : (c : Text) (s : List (Unit {0})) (r : Row_of-Fill (list_count this s none_left))
-    → (out-Unit (Unit' c s r)).component ≡ c
-unfolding out-Unit out
-unit_component c s r = refl
-
 unit_from : (c d : Text) (s z : List (Unit {0})) (r : Row_of-Fill (list_count this s none_left))
     (q : Row_of-Fill (list_count this z none_left)) → c ≡ d → fills_of r ≡ fills_of q → Unit' c s r ≡ Unit' d z q
 unit_from c d s z r q e f =
-    unit-same (Unit' c s r) (Unit' d z q) (unit_component c s r ∙ e ∙ sym (unit_component d z q))
+    unit-same (Unit' c s r) (Unit' d z q) (component-is c s r ∙ e ∙ sym (component-is d z q))
     (unit_fills c s r ∙ f ∙ sym (unit_fills d z q))
 
 mutual

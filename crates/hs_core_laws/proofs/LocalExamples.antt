@@ -34,6 +34,7 @@ use Rattle.hs_core.specs.Globals.{plain_names, synonyms_of}
 use Rattle.hs_core.specs.FreeNames.{LocalDecl, local_decl}
 use Rattle.hs_core.specs.LocalGroups.{IsTyped, GroupTyping, MeetsSignature, Extends}
 use Rattle.hs_core.specs.Typing.{HasType, IsTypedDecl}
+use Rattle.hs_core.proofs.ExpansionLemmas.{le_both}
 use Rattle.hs_core_laws.specs.Examples.{simply, int_written, char_written, function_written, pair_written, is_simply}
 use Rattle.hs_core_laws.specs.Programs.{itself, two_bindings, uses_of_both, calls_itself, where_clause}
 use Rattle.hs_core_laws.specs.Programs.{GroupAfterGroupIsTyped, PolymorphicRecursionIsTyped, WhereIsSeenInGuards}
@@ -59,9 +60,6 @@ falls g f _ _ (here v) = le_same v
     le_same : (n : ℕ) → n ≤ n
     le_same n = Prim.omega arith
 falls g f _ _ (along v w z a r) = le_both z w v (falls g f w z r) (f v w a)
-  where
-    le_both : (a b c : ℕ) → a ≤ b → b ≤ c → a ≤ c
-    le_both a b c p q = Prim.omega arith
 
 together_same : (g : List UseList) → Falls g → (v w : ℕ) → Together g v w → v ≡ w
 together_same g f v w t = both_ways v w (falls g f v w t.0) (falls g f w v t.1)
