@@ -269,35 +269,53 @@ fn copies_are_equal_and_shorter_lists_are_not(rt: HostRuntime) -> Result<(), Fai
     Ok(())
 }
 
+fn texts_are_copied(alloc: Global) -> Result<bool, AllocError> {
+    let path = Path::from_bytes(alloc, b"p/M.hs")?;
+    let same_path = path.copied(alloc)?;
+    let bytes = Bytes::from_bytes(alloc, b"x = 1")?;
+    let same_bytes = bytes.copied(alloc)?;
+    Ok(path == same_path && bytes == same_bytes)
+}
+
+fn names_are_copied(alloc: Global) -> Result<bool, AllocError> {
+    let mut names = Items::new(alloc);
+    names.push(name(alloc, b"M")?)?;
+    let copy = copied_names(alloc, &names)?;
+    Ok(same_names(copy.as_slice(), names.as_slice()))
+}
+
+fn renames_are_copied(alloc: Global) -> Result<bool, AllocError> {
+    let renames = renames(alloc)?;
+    let copy = copied_renames(alloc, &renames)?;
+    Ok(same_all(copy.as_slice(), renames.as_slice()))
+}
+
+fn provisions_are_copied(alloc: Global) -> Result<bool, AllocError> {
+    let provided = provisions(alloc)?;
+    let copy = copied_provisions(alloc, &provided)?;
+    Ok(same_all(copy.as_slice(), provided.as_slice()))
+}
+
+/// How many fills a copy of those of `p[H=<A>]` has.
+fn copied_count(alloc: Global) -> Result<usize, AllocError> {
+    let ident = indefinite(alloc)?;
+    match &ident {
+        Ident::Module { unit, .. } => {
+            let copy = copied_fills(alloc, &unit.get().fills)?;
+            Ok(copy.len())
+        }
+        Ident::Hole { .. } => Ok(0),
+    }
+}
+
 #[test]
 fn texts_and_lists_are_copied(rt: HostRuntime) -> Result<(), Fail> {
     let alloc = rt.alloc();
-    let path = Path::from_bytes(alloc, b"p/M.hs")?;
-    assert!(rt; path.copied(alloc)? == path);
-    let bytes = Bytes::from_bytes(alloc, b"x = 1")?;
-    assert!(rt; bytes.copied(alloc)? == bytes);
-    let mut names = Items::new(alloc);
-    names.push(name(alloc, b"M")?)?;
-    assert!(rt; same_names(copied_names(alloc, &names)?.as_slice(), names.as_slice()));
-    let renames = renames(alloc)?;
-    assert!(rt;
-        same_all(
-            copied_renames(alloc, &renames)?.as_slice(),
-            renames.as_slice()
-        )
-    );
-    let provided = provisions(alloc)?;
-    assert!(rt;
-        same_all(
-            copied_provisions(alloc, &provided)?.as_slice(),
-            provided.as_slice()
-        )
-    );
-    let fills = match indefinite(alloc)? {
-        Ident::Module { unit, module: _ } => copied_fills(alloc, &unit.get().fills)?,
-        Ident::Hole { name: _ } => Items::new(alloc),
-    };
-    assert_eq!(rt; fills.len(), 1);
+    assert!(rt; texts_are_copied(alloc)?);
+    assert!(rt; names_are_copied(alloc)?);
+    assert!(rt; renames_are_copied(alloc)?);
+    assert!(rt; provisions_are_copied(alloc)?);
+    assert!(rt; copied_count(alloc)? == 1);
     Ok(())
 }
 
