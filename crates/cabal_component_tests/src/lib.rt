@@ -4,6 +4,8 @@
 #[cfg(test)]
 mod bad_input;
 #[cfg(test)]
+mod component_tables;
+#[cfg(test)]
 mod shown;
 #[cfg(test)]
 mod tables;

@@ -1,8 +1,9 @@
 //! Worked files: every field in each of its shapes, every refusal with its line, and what real packages have.
-use crate::shown::{Asked, answer};
-use crate::tables::{
-    COMPONENTS, EXECUTABLE_FIELDS, FIELDS, FILES, INCLUDES, LIBRARY_FIELDS, MAIN_FILES, PROJECTS,
+use crate::component_tables::{
+    COMPONENTS, EXECUTABLE_FIELDS, FIELDS, INCLUDES, LIBRARY_FIELDS, MAIN_FILES,
 };
+use crate::shown::{Asked, answer};
+use crate::tables::{FILES, PROJECTS};
 use std::alloc::{AllocError, Global};
 use std::test::Fail;
 
