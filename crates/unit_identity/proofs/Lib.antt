@@ -1,4 +1,5 @@
 pub mod FillLemmas
+pub mod FilledLemmas
 pub mod WellFormedLemmas
 pub mod ReadBackLemmas
 pub mod ExactLemmas
