@@ -2,6 +2,7 @@
 use Rattle.std.proofs.Common.{refl, sym, ap, ◌∙◌, subst, ◌≡◌, ℕ, Bool, true, false, not, cond, ◌||◌, ◌+◌, ◌<◌, List, []}
 use Rattle.std.proofs.Common.{◌∷◌, ◌++◌, length, get_or, take, drop}
 use Rattle.std.specs.Str.{bytes_eq}
+use Rattle.std.proofs.lemmas.Bool.{not-true, not-false}
 use Rattle.std.specs.Ordering.{nat_cmp, is_eq, ordering_reverse}
 use Rattle.std.specs.Cmp.Lexicographic.{slice_cmp}
 use Rattle.std.specs.declared.cmp.Ordering.{Ordering}
@@ -47,12 +48,8 @@ pub twice : (names : List (List ℕ)) (i : ℕ) (item name : List ℕ) (set : BT
 twice names i item name set added h e same holds a f d =
     distinct-twice (take i names) (drop (i + 1) names) item
     (is_among-there item (take i names) (subst (λ (n : List ℕ). is_among n (take i names) ≡ true) same (sym (holds name)
-    ∙ held (contains (slice_cmp nat_cmp) set name) (sym a ∙ f))))
+    ∙ not-false (contains (slice_cmp nat_cmp) set name) (sym a ∙ f))))
     (subst AreDistinct (split_at names i item h e) d)
-  where
-    held : (c : Bool) → not c ≡ false → c ≡ true
-    held true g = refl
-    held false g = absurd (cc g)
 
 -- a name that is new to the set
 pub set_more : (names : List (List ℕ)) (i : ℕ) (item name : List ℕ) (old new : BTreeSet (List ℕ)) (added : Bool)
@@ -68,17 +65,13 @@ set_more names i item name old new added h e same up a t (holds, d) =
     one_more : take (i + 1) names ≡ take i names ++ item ∷ []
     one_more = take_more names i item h ∙ ap (λ (y : List ℕ). take i names ++ y ∷ []) (sym e)
 
-    out : (c : Bool) → not c ≡ true → c ≡ false
-    out true g = absurd (cc g)
-    out false g = refl
-
     fresh : Among item (take i names) → ⊥
     fresh k =
         let there : is_among name (take i names) ≡ true =
         subst (λ (n : List ℕ). is_among n (take i names) ≡ true) (sym same)
         (there-is_among item (take i names) k) in
         let absent : contains (slice_cmp nat_cmp) old name ≡ false =
-        out (contains (slice_cmp nat_cmp) old name) (sym a ∙ t) in
+        not-true (contains (slice_cmp nat_cmp) old name) (sym a ∙ t) in
         cc (there, absent, holds name)
 
     pick : (x y : Bool) → cond x true y ≡ y || x

@@ -7,9 +7,9 @@ use Rattle.bp_base.specs.declared.ident.Ident.{Ident}
 use Rattle.bp_base.specs.declared.ident.Ident.TheVariants.{Hole, Module, Module'}
 use Rattle.bp_base.specs.declared.ident.Unit.{Unit as OfUnit, Unit', out-Unit}
 use Rattle.bp_base.specs.declared.ident.Fill.{Fill}
-use Rattle.bp_base.specs.declared.ident.Ident.TheBlock.{hidden-the_row-Unit-0, shown-the_row-Fill-1, end_of-Unit}
-use Rattle.bp_base.specs.declared.ident.Ident.TheBlock.{more_of-Unit, Row_of-Fill, end_of-Fill, more_of-Fill}
-use Rattle.bp_base.specs.declared.ident.Ident.TheViews.{roll-Unit, roll-out-Unit, out-roll-Unit}
+use Rattle.bp_base.specs.declared.ident.Ident.TheBlock.{end_of-Unit, more_of-Unit, Row_of-Fill, end_of-Fill, more_of-Fill}
+use Rattle.bp_base.specs.declared.ident.Ident.TheViews.{roll-Unit, out-roll-Unit}
+use Rattle.bp_base.proofs.IdentLemmas.{fills_of, fills_of-list, Module-is, unit-is}
 use Rattle.unit_identity.specs.Fill.{filled, filled_unit, filled_row, at_hole, found}
 use Rattle.hole_unify.specs.declared.equation.Equation.{Equation}
 use Rattle.bp_base.specs.Texts.{Text, Before, Rise, RiseAfter}
@@ -18,7 +18,6 @@ use Rattle.bp_base.proofs.TextLemmas.{one_name}
 use Rattle.hole_unify.specs.Unifiers.{IsAnswer}
 use Rattle.hole_unify.proofs.UnifyingLemmas.{Module-unit}
 use mathlib.Core.Former.{list_count, this, none_left}
-use denote.Hole.Carrier.{hidden, out, shown}
 
 -- what fills to a hole is a hole
 hole-filled : (i : Ident) (f : List Fill) (m : List ℕ) → filled i f ≡ Hole m → (n : List ℕ) × (i ≡ Hole n)
@@ -32,31 +31,10 @@ module _ (f g : List Fill) (keeps : (m : List ℕ) → at_hole m f ≡ Hole m �
   rows-tail : (a b : Fill) (l k : List Fill) → a ∷ l ≡ b ∷ k → l ≡ k
   rows-tail a b l k e = cc
 
-  -- the fills of a row
-  abbrev fills_of : {m : _} → Row_of-Fill m → List Fill
-  fills_of end_of-Fill = []
-  fills_of (more_of-Fill h i r) = record { hole = h; ident = i } ∷ fills_of r
-
-  fills_of-list : (c : List ℕ) (s : List (Unit {0})) (r : Row_of-Fill (list_count this s none_left))
-      → fills_of r ≡ (out-Unit (Unit' c s r)).fills
-  unfolding out-Unit out shown-the_row-Fill-1 shown
-  fills_of-list c [] end_of-Fill = refl
-  fills_of-list c (x ∷ s) (more_of-Fill h i r) = ap (λ l. record { hole = h; ident = i } ∷ l) (fills_of-list c s r)
-
-  Module-is : (s : _) (u : OfUnit) (m : List ℕ) → Module' s (more_of-Unit u end_of-Unit) m ≡ Module u m
-  unfolding hidden-the_row-Unit-0 hidden
-  Module-is s u m = refl
-
   -- the fills of a filled unit
-  fills-of-filled : (c : List ℕ) (s : List (Unit {0})) (r : Row_of-Fill (list_count this s none_left)) (h : List Fill)
-      → (out-Unit (filled_unit (Unit' c s r) h)).fills ≡ filled_row r h
+  fills-of-filled : (c : List ℕ) (s : List (Unit {0})) (r : Row_of-Fill (list_count this s none_left))
+      (h : List Fill) → (out-Unit (filled_unit (Unit' c s r) h)).fills ≡ filled_row r h
   fills-of-filled c s r h = ap (λ o. o.fills) (out-roll-Unit (record { component = c; fills = filled_row r h }))
-
-  unit-is : (c : List ℕ) (s : List (Unit {0})) (r : Row_of-Fill (list_count this s none_left))
-      → roll-Unit (record { component = c; fills = fills_of r }) ≡ Unit' c s r
-  unfolding out-Unit out
-  unit-is c s r = ap (λ l. roll-Unit (record { component = c; fills = l })) (fills_of-list c s r)
-      ∙ roll-out-Unit (Unit' c s r)
 
   -- what `f` leaves as it is, `g` leaves too
   mutual

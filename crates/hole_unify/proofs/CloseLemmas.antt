@@ -626,10 +626,8 @@ scaled-less a (suc b) w lt = by (nat_eq a b) refl (scaled-less a b w)
     by true e r = let is = eqb-true a b e in let s : scaled a w ≡ scaled b w = ap (λ z. scaled z w) is in
         omega (arith, s)
     by false e r = let d : a ≢ b = (λ q. let f : true ≡ false = sym (eq-eqb a b q) ∙ e in cc) in
-        let s = r (apart a b lt d) in omega (arith, s)
-      where
-        apart : (a b : ℕ) → a < suc b → (a ≢ b) → a < b
-        apart a b lt d = omega (arith, lt, d)
+        let less : a < b = omega (arith, lt, d) in
+        let s = r less in omega (arith, s)
 
 pub measure : List Node → List Pair → ℕ
 measure nodes pending = scaled (total nodes) (width nodes) + length pending

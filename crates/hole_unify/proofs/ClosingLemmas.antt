@@ -1,6 +1,7 @@
 -- A relation that is closed holds of all that is in one class.
 use Rattle.std.proofs.Common.{◌≡◌, ℕ, List, ◌⊎◌, inl, inr, refl, ap, sym, ◌∙◌, subst}
 use Rattle.std.specs.Prelude.{Some}
+use Rattle.std.proofs.lemmas.Option.{same_Some}
 use Rattle.bp_base.specs.declared.ident.Ident.{Ident}
 use Rattle.bp_base.specs.declared.ident.Ident.TheVariants.{Module}
 use Rattle.bp_base.specs.declared.ident.Unit.{Unit as OfUnit, out-Unit}
@@ -18,9 +19,6 @@ pub record IsClosed (es : List Equation) (R : Ident → Ident → Type 0) : Type
   pub at_hole : (u v : OfUnit) (m h : List ℕ) (i j : Ident) → (out-Unit u).component ≡ (out-Unit v).component
       → R (Module u m) (Module v m) → found h (out-Unit u).fills ≡ Some i → found h (out-Unit v).fills ≡ Some j → R i j
 
-one : {A : Type 0} (a b : A) → Some a ≡ Some b → a ≡ b
-one a b e = cc
-
 module _ (es : List Equation) (R : Ident → Ident → Type 0) (c : IsClosed es R) where
   turn : (a b : Ident) → (a ≡ b) ⊎ R a b → (b ≡ a) ⊎ R b a
   turn a b (inl e) = inl (sym e)
@@ -34,7 +32,7 @@ module _ (es : List Equation) (R : Ident → Ident → Type 0) (c : IsClosed es 
   below : (u v : OfUnit) (m h : List ℕ) (i j : Ident) → (out-Unit u).component ≡ (out-Unit v).component
       → (Module u m ≡ Module v m) ⊎ R (Module u m) (Module v m) → found h (out-Unit u).fills ≡ Some i
       → found h (out-Unit v).fills ≡ Some j → (i ≡ j) ⊎ R i j
-  below u v m h i j e (inl s) p q = inl (one i j (sym p ∙ ap (λ w. found h (out-Unit w).fills) (Module-unit u v m m s)
+  below u v m h i j e (inl s) p q = inl (same_Some i j (sym p ∙ ap (λ w. found h (out-Unit w).fills) (Module-unit u v m m s)
       ∙ q))
   below u v m h i j e (inr r) p q = inr (c.at_hole u v m h i j e r p q)
 

@@ -65,9 +65,6 @@ pub upto-at : (n : ℕ) (es : List Edge) (i : ℕ) (d : List ℕ) → i < n → 
 upto-at zero es i d lt = absurd (omega (arith, lt))
 upto-at (suc n) es i d lt = by (nat_eq i n) refl (upto-at n es i d)
   where
-    apart : (i n : ℕ) → i < suc n → (i ≢ n) → i < n
-    apart i n lt d = omega (arith, lt, d)
-
     by : (b : Bool) → nat_eq i n ≡ b → (i < n → get_or (ends_upto n es) i d ≡ ends_of i es)
         → get_or (ends_upto n es ++ ends_of n es ∷ []) i d ≡ ends_of i es
     by true e r =
@@ -75,7 +72,8 @@ upto-at (suc n) es i d lt = by (nat_eq i n) refl (upto-at n es i d)
         ap (λ z. get_or (ends_upto n es ++ ends_of n es ∷ []) z d) (is ∙ sym (upto-length n es))
         ∙ get_or-append_seam (ends_upto n es) (ends_of n es) [] d ∙ ap (λ z. ends_of z es) (sym is)
     by false e r =
-        let less : i < n = apart i n lt (λ q. let f : true ≡ false = sym (eq-eqb i n q) ∙ e in cc) in
+        let apart : i ≢ n = (λ q. let f : true ≡ false = sym (eq-eqb i n q) ∙ e in cc) in
+        let less : i < n = omega (arith, lt, apart) in
         get_or-append (ends_upto n es) (ends_of n es ∷ []) d i (let l = upto-length n es in omega (arith, l, less))
         ∙ r less
 

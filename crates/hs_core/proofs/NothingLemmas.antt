@@ -4,11 +4,10 @@ use Rattle.std.specs.Prelude.{map}
 use Rattle.bp_base.specs.Texts.{Text}
 use Rattle.bp_base.specs.declared.ident.Ident.{Ident}
 use Rattle.bp_base.specs.declared.ident.Ident.TheVariants.{Hole, Module, Module'}
-use Rattle.bp_base.specs.declared.ident.Unit.{Unit as OfUnit, Unit', out-Unit}
-use Rattle.bp_base.specs.declared.ident.Ident.TheBlock.{hidden-the_row-Unit-0, shown-the_row-Fill-1, items-the_row-Fill}
-use Rattle.bp_base.specs.declared.ident.Ident.TheBlock.{items_shown-the_row-Fill-1, end_of-Unit, more_of-Unit}
-use Rattle.bp_base.specs.declared.ident.Ident.TheBlock.{Row_of-Fill, end_of-Fill, more_of-Fill}
-use Rattle.bp_base.specs.declared.ident.Ident.TheViews.{roll-Unit, roll-out-Unit}
+use Rattle.bp_base.specs.declared.ident.Unit.{Unit as OfUnit, Unit'}
+use Rattle.bp_base.specs.declared.ident.Ident.TheBlock.{end_of-Unit, more_of-Unit, Row_of-Fill, end_of-Fill, more_of-Fill}
+use Rattle.bp_base.specs.declared.ident.Ident.TheViews.{roll-Unit}
+use Rattle.bp_base.proofs.IdentLemmas.{fills_of, Module-is, unit-is}
 use Rattle.bp_base.specs.declared.ty.OrigName.{OrigName}
 use Rattle.bp_base.specs.declared.ty.Space.{Space}
 use Rattle.unit_identity.specs.Fill.{filled, filled_unit, filled_row}
@@ -29,29 +28,19 @@ use Rattle.hs_core.specs.Rename.{renamed_at, renamed_name, renamed_written, rena
 use Rattle.hs_core.specs.Rename.{renamed_con}
 use Rattle.hs_core.specs.RenameLaws.{nothing}
 use denote.Hole.Carrier.{hidden, out, roll}
-use mathlib.Core.Former.{list_count, this, none_left}
 
 -- ---- names
-
-Module-is : (s : _) (u : OfUnit) (m : Text) → Module u m ≡ Module' s (more_of-Unit u end_of-Unit) m
-unfolding hidden-the_row-Unit-0 hidden
-Module-is s u m = refl
-
-unit-is : (c : Text) (s : List (Unit {0})) (r : Row_of-Fill (list_count this s none_left))
-    → roll-Unit (record { component = c; fills = shown-the_row-Fill-1 s r }) ≡ Unit' c s r
-unfolding out-Unit roll-Unit out
-unit-is c s r = roll-out-Unit (Unit' c s r)
 
 mutual
   filled-same : (i : Ident) → filled i [] ≡ i
   filled-same (Hole n) = refl
-  filled-same (Module' s (more_of-Unit u end_of-Unit) m) = ap (λ v. Module v m) (unit-same u) ∙ Module-is s u m
+  filled-same (Module' s (more_of-Unit u end_of-Unit) m) = ap (λ v. Module v m) (unit-same u)
+      ∙ sym (Module-is s u m)
 
   unit-same : (u : OfUnit) → filled_unit u [] ≡ u
-  unit-same (Unit' c s r) = ap (λ l. roll-Unit (record { component = c; fills = l })) (fills-same r
-      ∙ sym (items_shown-the_row-Fill-1 s r)) ∙ unit-is c s r
+  unit-same (Unit' c s r) = ap (λ l. roll-Unit (record { component = c; fills = l })) (fills-same r) ∙ unit-is c s r
 
-  fills-same : {m : _} (r : Row_of-Fill m) → filled_row r [] ≡ items-the_row-Fill m r
+  fills-same : {m : _} (r : Row_of-Fill m) → filled_row r [] ≡ fills_of r
   fills-same end_of-Fill = refl
   fills-same (more_of-Fill h i r) = λ k. record { hole = h; ident = filled-same i k } ∷ fills-same r k
 

@@ -8,16 +8,15 @@ use Rattle.bp_base.proofs.TextLemmas.{texts_same, same_texts}
 use Rattle.bp_base.specs.Texts.{Text}
 use Rattle.bp_base.specs.declared.ident.Ident.{Ident}
 use Rattle.bp_base.specs.declared.ident.Ident.TheVariants.{Hole, Module'}
-use Rattle.bp_base.specs.declared.ident.Unit.{Unit as OfUnit, Unit', out-Unit}
-use Rattle.bp_base.specs.declared.ident.Ident.TheBlock.{shown-the_row-Fill-1, end_of-Unit, more_of-Unit, Row_of-Fill}
+use Rattle.bp_base.specs.declared.ident.Unit.{Unit as OfUnit, Unit'}
+use Rattle.bp_base.specs.declared.ident.Ident.TheBlock.{end_of-Unit, more_of-Unit, Row_of-Fill}
 use Rattle.bp_base.specs.declared.ident.Ident.TheBlock.{end_of-Fill, more_of-Fill}
 use Rattle.bp_base.specs.declared.ident.Fill.{Fill}
 use Rattle.bp_base.specs.declared.ty.OrigName.{OrigName}
 use Rattle.bp_base.specs.declared.ty.Space.{Space}
 use Rattle.bp_base.specs.declared.ty.Space.TheVariants.{Types, Values}
-use Rattle.bp_base.proofs.IdentLemmas.{unit-same, component-is}
+use Rattle.bp_base.proofs.IdentLemmas.{unit-same, component-is, fills_of, fills_of-list}
 use Rattle.hs_core.specs.Sameness.{same_space, same_identity, same_units, same_filling, same_original}
-use denote.Hole.Carrier.{out, shown}
 use mathlib.Core.Former.{list_count, this, none_left}
 
 space_itself : (s : Space) → same_space s s ≡ true
@@ -42,22 +41,11 @@ mutual
   filling_itself end_of-Fill = refl
   filling_itself (more_of-Fill h i r) = ap₂ ◌&&◌ (texts_same h) (ap₂ ◌&&◌ (identity_itself i) (filling_itself r))
 
--- the fills of a row
-abbrev fills_of : {m : _} → Row_of-Fill m → List Fill
-fills_of end_of-Fill = []
-fills_of (more_of-Fill h i r) = record { hole = h; ident = i } ∷ fills_of r
-
-unit_fills : (c : Text) (s : List (Unit {0})) (r : Row_of-Fill (list_count this s none_left))
-    → (out-Unit (Unit' c s r)).fills ≡ fills_of r
-unfolding out-Unit out shown-the_row-Fill-1 shown
-unit_fills c [] end_of-Fill = refl
-unit_fills c (x ∷ s) (more_of-Fill h i r) = ap (λ l. record { hole = h; ident = i } ∷ l) (unit_fills c s r)
-
 unit_from : (c d : Text) (s z : List (Unit {0})) (r : Row_of-Fill (list_count this s none_left))
     (q : Row_of-Fill (list_count this z none_left)) → c ≡ d → fills_of r ≡ fills_of q → Unit' c s r ≡ Unit' d z q
 unit_from c d s z r q e f =
     unit-same (Unit' c s r) (Unit' d z q) (component-is c s r ∙ e ∙ sym (component-is d z q))
-    (unit_fills c s r ∙ f ∙ sym (unit_fills d z q))
+    (sym (fills_of-list c s r) ∙ f ∙ fills_of-list d z q)
 
 mutual
   identity_same : (i j : Ident) → same_identity i j ≡ true → i ≡ j

@@ -35,8 +35,11 @@ stars w = star
 abbrev pub of_stars : TypeTerm → TypeScheme
 of_stars t = record { generic = λ w. true; kinds = stars; body = t }
 
-pub declared_stars : (t : TypeTerm) → HasKind (plain_names bare) stars t star
-    → IsDeclared (plain_names bare) t (of_stars t)
+-- where every name of a type is plain, the type has kind `*`
+abbrev pub HasStar : TypeTerm → Type 0
+HasStar t = HasKind (plain_names bare) stars t star
+
+pub declared_stars : (t : TypeTerm) → HasStar t → IsDeclared (plain_names bare) t (of_stars t)
 declared_stars t h = record { generic = λ w. refl; kinds = record { fit = h; least = λ other k w o. tt }; body = refl }
 
 -- of a list of one, what holds of it holds of each
@@ -159,9 +162,13 @@ binding_typed env = (
       (refl, function_kind stars (var 0) (var 0) refl refl) (lambda_has _),
 )
 
+-- the first of the groups has the type of the identity
+abbrev pub FirstIsTyped : IsTyped → Type 0
+FirstIsTyped typed = typed 0 stars (monomorphic to_itself ++ []) to_itself
+
 -- one local declaration that has a typing is generalised
-one_local : (typed : IsTyped) → typed 0 stars (monomorphic to_itself ++ []) to_itself
-    → Extends bare typed (local_decl identity_binding ∷ []) stars [] (generalised [] stars to_itself)
+one_local : (typed : IsTyped) → FirstIsTyped typed → Extends bare typed (local_decl identity_binding ∷ []) stars []
+    (generalised [] stars to_itself)
 unfolding roll-Rhs roll hidden-the_row-Decl-2 hidden hidden-the_row-Choice-5
 one_local typed h = record {
   declared = [];
@@ -187,8 +194,8 @@ one_local typed h = record {
 }
 
 -- the generalised identity at one type
-at_type : (t : TypeTerm) → HasKind (plain_names bare) stars t star
-    → HasType bare any (Local (codes "i")) stars (generalised [] stars to_itself) (function t t)
+at_type : (t : TypeTerm) → HasStar t → HasType bare any (Local (codes "i")) stars (generalised [] stars to_itself)
+    (function t t)
 at_type t h = (
   (refl, function_kind stars t t h h),
   _,

@@ -40,7 +40,7 @@ use Rattle.hs_core_laws.specs.Programs.{itself, two_bindings, uses_of_both, call
 use Rattle.hs_core_laws.specs.Programs.{GroupAfterGroupIsTyped, PolymorphicRecursionIsTyped, WhereIsSeenInGuards}
 use Rattle.hs_core_laws.proofs.DerivingLemmas.{bare, bare_name, alone, one_group, simply_has, integer_kind}
 use Rattle.hs_core_laws.proofs.DerivingLemmas.{character_kind, function_kind, pair_of_kind, single_instance}
-use Rattle.hs_core_laws.proofs.DerivationLemmas.{stars, of_stars, only_one, to_itself, binding_typed, written_pair}
+use Rattle.hs_core_laws.proofs.DerivationLemmas.{HasStar, FirstIsTyped, stars, of_stars, only_one, to_itself, binding_typed, written_pair}
 use Rattle.hs_core_laws.proofs.SeveralClauseLemmas.{written_function}
 use Rattle.hs_core_laws.proofs.BindingLemmas.{one_binding, declared_with_stars}
 use denote.Hole.Carrier.{hidden, roll}
@@ -156,8 +156,7 @@ k_itself = record { name = codes "k"; type = function (var 0) (var 0) } ∷ []
 abbrev both_seen : List Assumption
 both_seen = generalised first_seen stars k_itself ++ first_seen
 
-two_local : (typed : IsTyped) → typed 0 stars (monomorphic to_itself ++ []) to_itself
-    → typed 1 stars (monomorphic k_itself ++ first_seen) k_itself
+two_local : (typed : IsTyped) → FirstIsTyped typed → typed 1 stars (monomorphic k_itself ++ first_seen) k_itself
     → Extends bare typed
     (local_decl (is_simply (codes "i") itself) ∷ local_decl (is_simply (codes "k") (Local (codes "i"))) ∷ []) stars
     [] both_seen
@@ -219,8 +218,7 @@ second_typed = (
   simply_has bare any (Local (codes "i")) stars _ (function (var 0) (var 0)) (refl, identity_kind) i_inside,
 )
 
-i_at : (t : TypeTerm) → HasKind (plain_names bare) stars t star
-    → HasType bare any (Local (codes "i")) stars both_seen (function t t)
+i_at : (t : TypeTerm) → HasStar t → HasType bare any (Local (codes "i")) stars both_seen (function t t)
 i_at t h = (
   (refl, function_kind stars t t h h),
   _,
@@ -228,8 +226,7 @@ i_at t h = (
   record { choice = λ w. t; fixed = λ w g. absurd (true≢false g); kinded = λ w o g. h; gives = refl },
 )
 
-k_at : (t : TypeTerm) → HasKind (plain_names bare) stars t star
-    → HasType bare any (Local (codes "k")) stars both_seen (function t t)
+k_at : (t : TypeTerm) → HasStar t → HasType bare any (Local (codes "k")) stars both_seen (function t t)
 k_at t h = (
   (refl, function_kind stars t t h h),
   _,

@@ -6,7 +6,7 @@ use Rattle.std.specs.Bool.{Decides}
 use Rattle.std.specs.Cmp.Lexicographic.{pointwise}
 use Rattle.std.proofs.lemmas.Slice.Eq.{slice_eq-Decides}
 use Rattle.std.proofs.lemmas.Bool.Decides.{Decides-eqb}
-use Rattle.std.proofs.lemmas.Bool.{and_parts, and_from}
+use Rattle.std.proofs.lemmas.Bool.{and_parts, and_from, or_parts}
 use Rattle.std.proofs.lemmas.Option.{same_Some}
 use Rattle.bp_base.proofs.TextLemmas.{Decides-texts}
 use Rattle.ident_table.specs.declared.node.NumberFill.{NumberFill}
@@ -14,10 +14,6 @@ use Rattle.ident_table.specs.declared.node.IdentNode.{IdentNode}
 use Rattle.ident_table.specs.declared.node.IdentNode.TheVariants as node
 use Rattle.ident_table.specs.Sameness.{fill_eq}
 use Rattle.ident_table.specs.contracts.node.IdentNodePartialEq.TheImpl.{ghosts}
-
-rest-false : (a b : Bool) → a || b ≡ false → b ≡ false
-rest-false true b e = cc
-rest-false false b e = e
 
 -- the test of the table
 abbrev pub node_eq : IdentNode → IdentNode → Bool
@@ -62,4 +58,5 @@ node-absent (y ∷ ys) x zero e is =
     let found : node_eq x y ≡ true = ap (node_eq x) (same_Some y x is) ∙ nodes-same x in
     let all : node_eq x y || list_any (node_eq x) ys ≡ true = ap (λ t. t || list_any (node_eq x) ys) found in
     absurd (true≢false (sym all ∙ e))
-node-absent (y ∷ ys) x (suc k) e is = node-absent ys x k (rest-false _ _ e) is
+node-absent (y ∷ ys) x (suc k) e is =
+    node-absent ys x k (or_parts (node_eq x y) (list_any (node_eq x) ys) e).1 is
