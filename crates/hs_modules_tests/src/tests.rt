@@ -6,10 +6,16 @@ use hs_trees::{
 };
 use sqlite_items::{Boxed, Items};
 use std::alloc::{AllocError, Global};
+use std::process::Abort;
 use std::test::Fail;
 
 /// A size and a depth.
 type Extent = Result<(u64, u64), AllocError>;
+
+fn expect(rt: &impl Abort, found: (u64, u64), wanted: (u64, u64)) -> Result<(), Fail> {
+    assert_eq!(rt; found, wanted);
+    Ok(())
+}
 
 fn name(alloc: Global) -> Result<Name, AllocError> {
     Name::from_bytes(alloc, b"a")
@@ -117,13 +123,13 @@ fn literal(alloc: Global) -> Extent {
 #[test]
 fn atoms(rt: HostRuntime) -> Result<(), Fail> {
     let alloc = rt.alloc();
-    assert_eq!(rt; measured(alloc, unit(alloc)), (5, 0));
-    assert_eq!(rt; variable(alloc)?, (4, 0));
-    assert_eq!(rt; literal(alloc)?, (4, 0));
-    assert_eq!(rt; brackets(alloc)?, (9, 1));
-    assert_eq!(rt; tuple(alloc)?, (14, 1));
-    assert_eq!(rt; list(alloc)?, (9, 1));
-    assert_eq!(rt; long_list(alloc)?, (4 + 5 * 10_001, 1));
+    expect(&rt, measured(alloc, unit(alloc)), (5, 0))?;
+    expect(&rt, variable(alloc)?, (4, 0))?;
+    expect(&rt, literal(alloc)?, (4, 0))?;
+    expect(&rt, brackets(alloc)?, (9, 1))?;
+    expect(&rt, tuple(alloc)?, (14, 1))?;
+    expect(&rt, list(alloc)?, (9, 1))?;
+    expect(&rt, long_list(alloc)?, (4 + 5 * 10_001, 1))?;
     Ok(())
 }
 
@@ -188,13 +194,17 @@ fn right_section(alloc: Global) -> Extent {
 #[test]
 fn chains_and_sections(rt: HostRuntime) -> Result<(), Fail> {
     let alloc = rt.alloc();
-    assert_eq!(rt; applied(alloc)?, (7, 0));
-    assert_eq!(rt; chained(alloc, false)?, (8, 1));
-    assert_eq!(rt; chained(alloc, true)?, (8, 2));
-    assert_eq!(rt; measured(alloc, ExpTree::Infix(alone(alloc, true))), (5, 1));
-    assert_eq!(rt; annotated(alloc)?, (10, 2));
-    assert_eq!(rt; left_section(alloc)?, (8, 1));
-    assert_eq!(rt; right_section(alloc)?, (11, 2));
+    expect(&rt, applied(alloc)?, (7, 0))?;
+    expect(&rt, chained(alloc, false)?, (8, 1))?;
+    expect(&rt, chained(alloc, true)?, (8, 2))?;
+    expect(
+        &rt,
+        measured(alloc, ExpTree::Infix(alone(alloc, true))),
+        (5, 1),
+    )?;
+    expect(&rt, annotated(alloc)?, (10, 2))?;
+    expect(&rt, left_section(alloc)?, (8, 1))?;
+    expect(&rt, right_section(alloc)?, (11, 2))?;
     Ok(())
 }
 
@@ -276,10 +286,10 @@ fn case_of(alloc: Global) -> Extent {
 #[test]
 fn open_operands(rt: HostRuntime) -> Result<(), Fail> {
     let alloc = rt.alloc();
-    assert_eq!(rt; lambda(alloc)?, (10, 1));
-    assert_eq!(rt; let_in(alloc)?, (9, 1));
-    assert_eq!(rt; choice(alloc)?, (19, 1));
-    assert_eq!(rt; case_of(alloc)?, (32, 2));
+    expect(&rt, lambda(alloc)?, (10, 1))?;
+    expect(&rt, let_in(alloc)?, (9, 1))?;
+    expect(&rt, choice(alloc)?, (19, 1))?;
+    expect(&rt, case_of(alloc)?, (32, 2))?;
     Ok(())
 }
 
@@ -343,9 +353,9 @@ fn binding(alloc: Global) -> (u64, u64) {
 #[test]
 fn declarations(rt: HostRuntime) -> Result<(), Fail> {
     let alloc = rt.alloc();
-    assert_eq!(rt; guarded_clause(alloc)?, (1 + 4 + 1 + (1 + 13 + 5), 1));
-    assert_eq!(rt; bracketed_clause(alloc)?, (1 + 1 + 2 + 3 + 1 + 5, 2));
-    assert_eq!(rt; binding(alloc), (10, 0));
+    expect(&rt, guarded_clause(alloc)?, (1 + 4 + 1 + (1 + 13 + 5), 1))?;
+    expect(&rt, bracketed_clause(alloc)?, (1 + 1 + 2 + 3 + 1 + 5, 2))?;
+    expect(&rt, binding(alloc), (10, 0))?;
     Ok(())
 }
 
@@ -470,11 +480,12 @@ fn modules(rt: HostRuntime) -> Result<(), Fail> {
     let alloc = rt.alloc();
     let exports = 1 + 1 + 2;
     let data = 1 + 2 + 4;
-    assert_eq!(rt;
+    expect(
+        &rt,
         module(alloc)?,
-        (1 + (exports + 3) + 3 + data + 2 + (2 + 5), 1)
-    );
-    assert_eq!(rt; sig(alloc)?, (1 + (1 + 2 + 2 + 2) + 2, 2));
+        (1 + (exports + 3) + 3 + data + 2 + (2 + 5), 1),
+    )?;
+    expect(&rt, sig(alloc)?, (1 + (1 + 2 + 2 + 2) + 2, 2))?;
     Ok(())
 }
 
@@ -503,8 +514,8 @@ fn kind(alloc: Global) -> Extent {
 #[test]
 fn parts_of_modules(rt: HostRuntime) -> Result<(), Fail> {
     let alloc = rt.alloc();
-    assert_eq!(rt; ty(alloc)?, (5, 1));
-    assert_eq!(rt; pat(alloc)?, (4, 1));
-    assert_eq!(rt; kind(alloc)?, (6, 2));
+    expect(&rt, ty(alloc)?, (5, 1))?;
+    expect(&rt, pat(alloc)?, (4, 1))?;
+    expect(&rt, kind(alloc)?, (6, 2))?;
     Ok(())
 }
