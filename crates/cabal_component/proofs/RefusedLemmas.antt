@@ -46,8 +46,8 @@ block_first (l ∷ ls) line k h f z e =
     rw (r, count, f) (block_here l ls top)
 
 -- one more block of indent 0, with its first refused line and its components
-pub block_next : (F : Block → List Component) (rest : List Line) (line : Line) (k : ℕ) (least found new total : Option ℕ)
-    (more done all whole : List Component) → 1 ≤ length rest → line ≡ get_or rest 0 line → line.indent ≡ 0
+pub block_next : (F : Block → List Component) (rest : List Line) (line : Line) (k : ℕ)
+    (least found new total : Option ℕ) (more done all whole : List Component) → 1 ≤ length rest → line ≡ get_or rest 0 line → line.indent ≡ 0
     → k ≡ prefix_len (λ x. nat_lt 0 x.indent) (take (length rest - 1) (drop 1 rest))
     → found ≡ least_of (block_refused (block line (take k (take (length rest - 1) (drop 1 rest)))))
     → more ≡ F (block line (take k (take (length rest - 1) (drop 1 rest))))

@@ -67,7 +67,8 @@ twice_lines ps = twice_after [] ps
 
 -- the refused lines of the fields of a component whose head has this line
 abbrev pub fields_refused : Kind → ℕ → List Given → List ℕ
-fields_refused kind head gs = (main_refused kind head gs ++ unread_lines gs) ++ (repeated gs ++ twice_lines (placed kind head gs))
+fields_refused kind head gs =
+    (main_refused kind head gs ++ unread_lines gs) ++ (repeated gs ++ twice_lines (placed kind head gs))
 
 -- what the fields of a component give
 abbrev pub givens_in : Kind → List Line → List Given

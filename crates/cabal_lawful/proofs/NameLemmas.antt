@@ -5,8 +5,8 @@ use Rattle.std.specs.List.{flat_map}
 use Rattle.std.proofs.lemmas.Bool.{eqb-true}
 use Rattle.bp_base.specs.Lists.{Among, AreDistinct, is_among}
 use Rattle.bp_base.specs.Texts.{Text}
-use Rattle.bp_base.proofs.SetLemmas.{among-left, among-right, among-either, distinct-left, distinct-right, distinct-cross}
-use Rattle.bp_base.proofs.SetLemmas.{distinct-join}
+use Rattle.bp_base.proofs.SetLemmas.{among-left, among-right, among-either, distinct-left, distinct-right}
+use Rattle.bp_base.proofs.SetLemmas.{distinct-cross, distinct-join}
 use Rattle.cabal_stanzas.specs.declared.table.ComponentField.{ComponentField}
 use Rattle.cabal_stanzas.specs.declared.table.ComponentField.TheVariants.{ExposedModules, OtherModules, Signatures}
 use Rattle.cabal_stanzas.specs.Table.{field_number, is_field}
@@ -104,14 +104,6 @@ named_cross v w a q (g ∷ gs) d m n =
 abbrev pub own_listed : List Given → List Text
 own_listed gs = modules_at ExposedModules gs ++ (modules_at OtherModules gs ++ modules_at Signatures gs)
 
-module _ (a : Text) (xs ys zs : List Text) where
-  pub in_three : {P : Type 0} → (Among a xs → P) → (Among a ys → P) → (Among a zs → P)
-      → Among a (xs ++ (ys ++ zs)) → P
-  in_three f g h m = elim (among-either a xs (ys ++ zs) m) [
-    | inl x ↦ f x
-    | inr k ↦ elim (among-either a ys zs k) [ inl y ↦ g y | inr z ↦ h z ]
-  ]
-
 -- no name stands twice among them
 pub own_distinct : (gs : List Given) → AreDistinct (names_placed gs) → AreDistinct (own_listed gs)
 own_distinct gs d =
@@ -129,5 +121,12 @@ own_distinct gs d =
 -- they are among the own names
 pub own_among : (gs : List Given) (a : Text) → Among a (own_listed gs) → Among a (names_placed gs)
 own_among gs a m =
-    in_three a (modules_at ExposedModules gs) (modules_at OtherModules gs) (modules_at Signatures gs)
-    (named_among ExposedModules a gs) (named_among OtherModules a gs) (named_among Signatures a gs) m
+    let others = modules_at OtherModules gs in
+    let signatures = modules_at Signatures gs in
+    elim (among-either a (modules_at ExposedModules gs) (others ++ signatures) m) [
+      | inl e ↦ named_among ExposedModules a gs e
+      | inr k ↦ elim (among-either a others signatures k) [
+        | inl o ↦ named_among OtherModules a gs o
+        | inr s ↦ named_among Signatures a gs s
+      ]
+    ]

@@ -17,8 +17,8 @@ use Rattle.cabal_stanzas.specs.Stanzas.{fields_at, indent_in, odd_lines}
 use Rattle.cabal_stanzas.specs.Heads.{refused_names, head_at, package_of, component_name}
 use Rattle.cabal_component.specs.declared.component.Mixin.{Mixin}
 use Rattle.cabal_component.specs.declared.given.Given.{Given}
-use Rattle.cabal_component.specs.Given.{givens, modules_in, renames_in, main_in, modules_at, renames_at, main_at, mixins_in}
-use Rattle.cabal_component.specs.Given.{mixins_at, value_of}
+use Rattle.cabal_component.specs.Given.{value_of, givens, modules_in, renames_in, main_in, mixins_in, modules_at}
+use Rattle.cabal_component.specs.Given.{renames_at, main_at, mixins_at}
 use Rattle.cabal_component.specs.Package.{main_refused, unread_lines, repeated, placed, twice_lines, fields_refused}
 use Rattle.cabal_component.specs.Package.{givens_in, stanza_refused, block_refused, blocks_refused, package_refused}
 use Rattle.cabal_component.specs.Reading.{is_own, is_executable, own_mixins, listed_deps, deps_of, component_with}

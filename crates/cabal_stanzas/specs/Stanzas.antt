@@ -19,7 +19,8 @@ joined value deeper = value ++ flat_map (λ l. 10 ∷ l.text) deeper
 
 abbrev pub field_if : Option (List ℕ × List ℕ) → Line → List Line → Option Field
 field_if None l deeper = None
-field_if (Some field) l deeper = Some (record { line = l.number; name = in_small field.0; value = joined field.1 deeper })
+field_if (Some field) l deeper =
+    Some (record { line = l.number; name = in_small field.0; value = joined field.1 deeper })
 
 -- the field that a block is
 abbrev pub field_in : Block → Option Field
