@@ -1,2 +1,1 @@
 pub mod RefusedLemmas
-pub mod DescribedLemmas

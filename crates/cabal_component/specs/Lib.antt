@@ -1,4 +1,5 @@
 pub mod Entries
+pub mod Given
 pub mod Package
 pub mod Reading
 pub mod Includes

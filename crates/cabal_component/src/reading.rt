@@ -1,27 +1,24 @@
 //! The components of a package file.
-ghost use Rattle.std.specs.Prelude.{◌≡◌, [], List, ℕ, Option, IfOk, MatchResult, map, codes};
+ghost use Rattle.std.specs.Prelude.{◌≡◌, [], List, ℕ, IfOk, MatchResult, map};
 ghost use Rattle.std.specs.HashSet.{contains};
 ghost use Rattle.std.specs.Str.{bytes_eq};
-ghost use Rattle.cabal_text.specs.Lines.{Block, kept_lines};
-ghost use Rattle.cabal_component.specs.Package.{or_none, package_refused};
-ghost use Rattle.cabal_component.specs.Reading.{words_at, part_if, part_at, own_libraries, resolved, resolved_mixin, mixins_in, listed_in, deps_of, or_here, folders_in, names_named, renames_in, main_in, library_with, executable_with, component_in, components_in, components_of, NamesLeast};
+ghost use Rattle.cabal_text.specs.Least.{least_of};
+ghost use Rattle.cabal_text.specs.Lines.{kept_lines};
+ghost use Rattle.cabal_component.specs.Package.{component_refused, block_refused, blocks_refused, package_refused};
+ghost use Rattle.cabal_component.specs.Reading.{part_at, own_libraries, resolved, resolved_mixin, own_mixins, listed_deps, deps_of, or_here, folders, is_executable, component_with, component_in, block_components, components_in, components_of, NamesLeast};
 ghost use Rattle.cabal_component.specs.declared.reading.ComponentError.TheVariants.{ComponentSyntax, NoMemory};
 
 use crate::component::{Component, Components, Mixin, Mixins};
-use crate::entries::mixins_of;
-use crate::package::{names_in, refused_line};
-use bp_base::{Bytes, Name, Names, Path, Renames};
-use cabal_stanzas::folder::{Paths, folders_of};
-use cabal_stanzas::heads::{
-    Head, component_name, head_of, head_words, library_name, named, package_of,
-};
-use cabal_stanzas::stanzas::{Field, fields_at, indent_in, value_named};
-use cabal_stanzas::values::{ranged_names, source_name};
-use cabal_text::fields::field_of;
+use crate::given::{Given, Value, givens, main_at, modules_at, renames_at, value_at};
+use crate::package::{common_line, deep_line, fields_line, shallow_line};
+use bp_base::{Name, Names, Path};
+use cabal_stanzas::folder::{Paths, copied_paths};
+use cabal_stanzas::heads::{Head, component_name, head_at, library_name, name_line, package_of};
+use cabal_stanzas::stanzas::{fields_at, indent_in, odd_line};
+use cabal_stanzas::table::{ComponentField, Kind};
+use cabal_text::least::sooner;
 use cabal_text::lines::{Line, deeper_len, kept_lines};
-use cabal_text::names::renames_of;
 use cabal_text::seen::{distinct, name_set};
-use cabal_text::tokens::tokens_of;
 use sqlite_items::Items;
 use std::alloc::{AllocError, Global};
 use std::collections::HashSet;
@@ -42,30 +39,11 @@ impl From<AllocError> for ComponentError {
     }
 }
 
-/// The words of a head; of a field nothing.
-fn words_at(alloc: Global, line: &Line) -> Result<Vec<Bytes>, AllocError>
-    ensures { IfOk result (λ words. words.items ≡ words_at line.now) }
-{
-    if field_of(line.text.as_bytes()).is_some() {
-        return Ok(Vec::new(alloc));
-    }
-    head_words(alloc, line.text.as_bytes())
-}
-
-/// The name of a library that is no main library.
-fn part_if(alloc: Global, head: Head, name: &[u8]) -> Result<Option<Name>, AllocError>
-    ensures { IfOk result (λ part. part ≡ part_if head name.now) }
-{
-    match head {
-        Head::Library => {
-            if name.is_empty() {
-                Ok(None)
-            } else {
-                Ok(Some(Name::from_bytes(alloc, name)?))
-            }
-        }
-        Head::Executable | Head::Common | Head::Ignored | Head::Other => Ok(None),
-    }
+/// What a text describes: its first refused line, and its components.
+#[derive(Debug, Drop)]
+pub struct Described {
+    pub refused: Option<u64>,
+    pub components: Components,
 }
 
 /// The name of the library whose head stands on this line, where it is no main library.
@@ -75,8 +53,20 @@ fn part_at(alloc: Global, line: &Line) -> Result<Option<Name>, AllocError>
     if line.indent > 0 {
         return Ok(None);
     }
-    let words = words_at(alloc, line)?;
-    part_if(alloc, head_of(&words), named(&words))
+    let Some(
+        Head::Component {
+            kind: Kind::Library,
+            name,
+        },
+    ) = head_at(alloc, line)?
+    else {
+        return Ok(None);
+    };
+    if name.as_bytes().is_empty() {
+        Ok(None)
+    } else {
+        Ok(Some(name))
+    }
 }
 
 /// The libraries of a package that have names of their own.
@@ -155,32 +145,32 @@ fn all_mixins(
 }
 
 /// The entries of `mixins`.
-fn mixins_in(
+fn own_mixins(
     alloc: Global,
     owner: &Name,
     own: &HashSet<Name>,
-    fields: &[Field],
+    givens: &[Given],
 ) -> Result<Mixins, AllocError>
-    ensures { IfOk result (λ mixins. mixins ≡ mixins_in owner.now (contains bytes_eq own.now) fields.now) }
+    ensures { IfOk result (λ mixins. mixins ≡ own_mixins owner.now (contains bytes_eq own.now) givens.now) }
 {
-    match mixins_of(alloc, value_named(b"mixins", fields))? {
-        Some(mixins) => all_mixins(alloc, owner, own, mixins.as_slice()),
-        None => Ok(Items::new(alloc)),
+    match value_at(ComponentField::Mixins, givens) {
+        Some(Value::Mixins { mixins }) => all_mixins(alloc, owner, own, mixins.as_slice()),
+        _ => Ok(Items::new(alloc)),
     }
 }
 
 /// The dependencies of `build-depends`.
-fn listed_in(
+fn listed_deps(
     alloc: Global,
     owner: &Name,
     own: &HashSet<Name>,
-    fields: &[Field],
+    givens: &[Given],
 ) -> Result<Names, AllocError>
-    ensures { IfOk result (λ names. names ≡ listed_in owner.now (contains bytes_eq own.now) fields.now) }
+    ensures { IfOk result (λ names. names ≡ listed_deps owner.now (contains bytes_eq own.now) givens.now) }
 {
-    match ranged_names(alloc, value_named(b"build-depends", fields))? {
-        Some(names) => all_resolved(alloc, owner, own, names.as_slice()),
-        None => Ok(Items::new(alloc)),
+    match value_at(ComponentField::BuildDepends, givens) {
+        Some(Value::Dependencies { names }) => all_resolved(alloc, owner, own, names.as_slice()),
+        _ => Ok(Items::new(alloc)),
     }
 }
 
@@ -216,164 +206,150 @@ fn or_here(alloc: Global, folders: Paths) -> Result<Paths, AllocError>
 }
 
 /// The folders of sources.
-fn folders_in(alloc: Global, fields: &[Field]) -> Result<Paths, AllocError>
-    ensures { IfOk result (λ folders. folders ≡ folders_in fields.now) }
+fn folders(alloc: Global, givens: &[Given]) -> Result<Paths, AllocError>
+    ensures { IfOk result (λ found. found ≡ folders givens.now) }
 {
-    match folders_of(alloc, value_named(b"hs-source-dirs", fields))? {
-        Some(folders) => or_here(alloc, folders),
-        None => or_here(alloc, Items::new(alloc)),
+    match value_at(ComponentField::HsSourceDirs, givens) {
+        Some(Value::Folders { paths }) => or_here(alloc, copied_paths(alloc, paths)?),
+        _ => or_here(alloc, Items::new(alloc)),
     }
 }
 
-/// The names that the field of this name lists.
-fn names_named(alloc: Global, name: &[u8], fields: &[Field]) -> Result<Names, AllocError>
-    ensures { IfOk result (λ names. names ≡ names_named name.now fields.now) }
+fn is_executable(kind: Kind) -> bool
+    ensures { result ≡ is_executable kind }
 {
-    names_in(alloc, value_named(name, fields))
+    matches!(kind, Kind::Executable)
 }
 
-/// The re-exports.
-fn renames_in(alloc: Global, fields: &[Field]) -> Result<Renames, AllocError>
-    ensures { IfOk result (λ renames. renames ≡ renames_in fields.now) }
-{
-    let tokens = tokens_of(alloc, value_named(b"reexported-modules", fields))?;
-    match renames_of(alloc, &tokens)? {
-        Some(renames) => Ok(renames),
-        None => Ok(Items::new(alloc)),
-    }
-}
-
-/// The main file.
-fn main_in(alloc: Global, fields: &[Field]) -> Result<Path, AllocError>
-    ensures { IfOk result (λ path. path ≡ main_in fields.now) }
-{
-    match source_name(alloc, value_named(b"main-is", fields))? {
-        Some(path) => Ok(path),
-        None => Path::from_bytes(alloc, b""),
-    }
-}
-
-/// The library of this name that a stanza with these fields describes.
-fn library_with(
+/// The component of this name that a stanza with these fields describes.
+fn component_with(
     alloc: Global,
     file: &Path,
     owner: &Name,
     own: &HashSet<Name>,
+    kind: Kind,
     name: Name,
-    fields: &[Field],
+    givens: &[Given],
 ) -> Result<Component, AllocError>
-    ensures { IfOk result (λ component. component ≡ library_with file.now owner.now (contains bytes_eq own.now) name fields.now) }
+    ensures { IfOk result (λ component. component ≡ component_with file.now owner.now (contains bytes_eq own.now) kind name givens.now) }
 {
-    let mixins = mixins_in(alloc, owner, own, fields)?;
-    let listed = listed_in(alloc, owner, own, fields)?;
+    let mixins = own_mixins(alloc, owner, own, givens)?;
+    let listed = listed_deps(alloc, owner, own, givens)?;
     Ok(Component {
         name,
-        executable: false,
-        exposed: names_named(alloc, b"exposed-modules", fields)?,
-        other: names_named(alloc, b"other-modules", fields)?,
-        main_is: Path::from_bytes(alloc, b"")?,
-        signatures: names_named(alloc, b"signatures", fields)?,
-        reexports: renames_in(alloc, fields)?,
+        executable: is_executable(kind),
+        exposed: modules_at(alloc, ComponentField::ExposedModules, givens)?,
+        other: modules_at(alloc, ComponentField::OtherModules, givens)?,
+        main_is: main_at(alloc, givens)?,
+        signatures: modules_at(alloc, ComponentField::Signatures, givens)?,
+        reexports: renames_at(alloc, givens)?,
         deps: deps_of(alloc, listed, mixins.as_slice())?,
         mixins,
-        dirs: folders_in(alloc, fields)?,
+        dirs: folders(alloc, givens)?,
         file: file.copied(alloc)?,
     })
 }
 
-/// The executable of this name that a stanza with these fields describes.
-fn executable_with(
+/// A component and its first refused line.
+#[tactic(auto, using(cabal_text::proofs::SoonerLemmas::least_append))]
+fn component(
     alloc: Global,
     file: &Path,
     owner: &Name,
     own: &HashSet<Name>,
-    name: Name,
-    fields: &[Field],
-) -> Result<Component, AllocError>
-    ensures { IfOk result (λ component. component ≡ executable_with file.now owner.now (contains bytes_eq own.now) name fields.now) }
+    kind: Kind,
+    name: &Name,
+    line: &Line,
+    deeper: &[Line],
+) -> Result<Described, AllocError>
+    ensures refused { IfOk result (λ d. d.refused ≡ least_of (component_refused kind line.now deeper.now)) }
+    ensures components { IfOk result (λ d. d.components ≡ component_in file.now owner.now (contains bytes_eq own.now) kind name.now deeper.now) }
 {
-    let mixins = mixins_in(alloc, owner, own, fields)?;
-    let listed = listed_in(alloc, owner, own, fields)?;
-    Ok(Component {
-        name,
-        executable: true,
-        exposed: Items::new(alloc),
-        other: names_named(alloc, b"other-modules", fields)?,
-        main_is: main_in(alloc, fields)?,
-        signatures: Items::new(alloc),
-        reexports: Items::new(alloc),
-        deps: deps_of(alloc, listed, mixins.as_slice())?,
-        mixins,
-        dirs: folders_in(alloc, fields)?,
-        file: file.copied(alloc)?,
+    let indent = indent_in(deeper);
+    let fields = fields_at(alloc, indent, deeper)?;
+    let given = givens(alloc, kind, &fields)?;
+    let least = fields_line(alloc, kind, line.number, given.as_slice())?;
+    let name = component_name(alloc, owner.as_bytes(), kind, name.as_bytes())?;
+    let mut components = Items::new(alloc);
+    components.push(component_with(alloc, file, owner, own, kind, name, given.as_slice())?)?;
+    Ok(Described {
+        refused: sooner(odd_line(indent, deeper), least),
+        components,
     })
 }
 
-/// The component that a line of indent 0 describes with the deeper lines after it.
-fn component_in(
+/// A line of indent 0 and the deeper ones after it: the component that they describe, and the first of them that is refused.
+fn block(
     alloc: Global,
     file: &Path,
     owner: &Name,
     own: &HashSet<Name>,
     line: &Line,
     deeper: &[Line],
-) -> Result<Option<Component>, AllocError>
-    ensures { IfOk result (λ found. found ≡ component_in file.now owner.now (contains bytes_eq own.now) (record { line = line.now; deeper = deeper.now })) }
+) -> Result<Described, AllocError>
+    ensures refused { IfOk result (λ d. d.refused ≡ least_of (block_refused (record { line = line.now; deeper = deeper.now }))) }
+    ensures components { IfOk result (λ d. d.components ≡ block_components file.now owner.now (contains bytes_eq own.now) (record { line = line.now; deeper = deeper.now })) }
 {
-    let words = words_at(alloc, line)?;
-    let fields = fields_at(alloc, indent_in(deeper), deeper)?;
-    match head_of(&words) {
-        Head::Library => {
-            let name = component_name(alloc, owner.as_bytes(), false, named(&words))?;
-            Ok(Some(library_with(alloc, file, owner, own, name, &fields)?))
+    let refused = match head_at(alloc, line)? {
+        None => None,
+        Some(Head::Component { kind, name }) => {
+            return component(alloc, file, owner, own, kind, &name, line, deeper);
         }
-        Head::Executable => {
-            let name = component_name(alloc, owner.as_bytes(), true, named(&words))?;
-            Ok(Some(executable_with(alloc, file, owner, own, name, &fields)?))
-        }
-        Head::Common | Head::Ignored | Head::Other => Ok(None),
-    }
+        Some(Head::Common) => common_line(alloc, deeper)?,
+        Some(Head::Ignored) => shallow_line(deeper),
+        Some(Head::Other) => Some(line.number),
+    };
+    Ok(Described {
+        refused,
+        components: Items::new(alloc),
+    })
 }
 
-/// The components of the blocks of indent 0.
-fn components_in(
+/// The blocks of indent 0: their components, and the first line of them that is refused.
+fn described_in(
     alloc: Global,
     file: &Path,
     owner: &Name,
     own: &HashSet<Name>,
     lines: &[Line],
-) -> Result<Components, AllocError>
-    ensures { IfOk result (λ all. all ≡ components_in file.now owner.now (contains bytes_eq own.now) lines.now) }
+) -> Result<Described, AllocError>
+    ensures refused { IfOk result (λ d. d.refused ≡ least_of (blocks_refused lines.now)) }
+    ensures components { IfOk result (λ d. d.components ≡ components_in file.now owner.now (contains bytes_eq own.now) lines.now) }
 {
-    let mut all = Items::new(alloc);
+    let mut refused = None;
+    let mut components = Items::new(alloc);
     let mut rest = lines;
     while let [line, after @ ..] = rest {
-        if line.indent == 0
-            && let Some(component) = component_in(
-                alloc,
-                file,
-                owner,
-                own,
-                line,
-                &after[..deeper_len(0, after)],
-            )?
-        {
-            all.push(component)?;
+        if line.indent == 0 {
+            let deeper = &after[..deeper_len(0, after)];
+            let found = block(alloc, file, owner, own, line, deeper)?;
+            refused = sooner(refused, found.refused);
+            components.append(found.components)?;
         }
         rest = after;
     }
-    Ok(all)
+    Ok(Described {
+        refused,
+        components,
+    })
 }
 
-/// The components of a package file that has no refused line.
-fn components_of(alloc: Global, file: &Path, lines: &[Line]) -> Result<Components, AllocError>
-    ensures { IfOk result (λ all. all ≡ components_of file.now lines.now) }
+/// A package file: its components, and its first refused line.
+#[tactic(auto, using(cabal_text::proofs::SoonerLemmas::least_append))]
+fn package_file(alloc: Global, file: &Path, lines: &[Line]) -> Result<Described, AllocError>
+    ensures refused { IfOk result (λ d. d.refused ≡ least_of (package_refused lines.now)) }
+    ensures components { IfOk result (λ d. d.components ≡ components_of file.now lines.now) }
 {
     let fields = fields_at(alloc, 0, lines)?;
     let owner = package_of(alloc, &fields)?;
     let names = own_libraries(alloc, lines)?;
     let own = name_set(alloc, names.as_slice())?;
-    components_in(alloc, file, &owner, &own, lines)
+    let found = described_in(alloc, file, &owner, &own, lines)?;
+    let named = name_line(alloc, &fields)?;
+    Ok(Described {
+        refused: sooner(named, sooner(deep_line(lines), found.refused)),
+        components: found.components,
+    })
 }
 
 /// The components of a package file, in its order (Cabal manual, "package descriptions"). `path` is that of the file. The
@@ -389,8 +365,9 @@ pub fn read_component(
         (λ e. NamesLeast e (package_refused (kept_lines bytes.now))) }
 {
     let lines = kept_lines(alloc, bytes)?;
-    if let Some(line) = refused_line(alloc, &lines)? {
-        return Err(ComponentError::ComponentSyntax { line });
+    let found = package_file(alloc, path, &lines)?;
+    match found.refused {
+        Some(line) => Err(ComponentError::ComponentSyntax { line }),
+        None => Ok(found.components),
     }
-    Ok(components_of(alloc, path, &lines)?)
 }

@@ -2,6 +2,7 @@
 use Rattle.std.proofs.Common.{◌≡◌, ◌⊎◌, inl, inr, refl, sym, ◌∙◌, subst, Bool, true, false, ◌||◌, cond, List, [], ◌∷◌}
 use Rattle.std.proofs.Common.{◌++◌, arith}
 use Rattle.std.specs.Str.{bytes_eq}
+use Rattle.std.proofs.lemmas.Bool.{or_parts}
 use Rattle.std.proofs.lemmas.List.Folds.{list_any-append}
 use Rattle.bp_base.specs.Lists.{Among, AreDistinct}
 use Rattle.bp_base.specs.Texts.{Text}
@@ -10,26 +11,18 @@ use Rattle.bp_base.proofs.TextLemmas.{same_texts, texts_same}
 use Rattle.bp_base.specs.Lists.{is_among}
 use Rattle.cabal_text.specs.Seen.{repeats_after, new_after, distinct}
 
-pub none_first : (a b : Bool) → (a || b) ≡ false → a ≡ false
-none_first true b e = e
-none_first false b e = refl
-
-pub none_later : (a b : Bool) → (a || b) ≡ false → b ≡ false
-none_later true b e = absurd (cc)
-none_later false b e = e
-
 pub is_at_end : (seen : List Text) (n a : Text) → is_among a (seen ++ n ∷ []) ≡
     (is_among a seen || (bytes_eq a n || false))
 is_at_end seen n a = list_any-append (bytes_eq a) seen (n ∷ [])
 
 fewer : (seen : List Text) (n a : Text) → is_among a (seen ++ n ∷ []) ≡ false → is_among a seen ≡ false
-fewer seen n a e = none_first (is_among a seen) (bytes_eq a n || false) (sym (is_at_end seen n a) ∙ e)
+fewer seen n a e = (or_parts (is_among a seen) (bytes_eq a n || false) (sym (is_at_end seen n a) ∙ e)).0
 
 other : (seen : List Text) (n : Text) → is_among n (seen ++ n ∷ []) ≡ false → ⊥
 other seen n e =
-    let f : (bytes_eq n n || false) ≡ false = none_later (is_among n seen) (bytes_eq n n || false)
-    (sym (is_at_end seen n n) ∙ e) in
-    let g : bytes_eq n n ≡ false = none_first (bytes_eq n n) false f in
+    let f : (bytes_eq n n || false) ≡ false = (or_parts (is_among n seen) (bytes_eq n n || false)
+    (sym (is_at_end seen n n) ∙ e)).1 in
+    let g : bytes_eq n n ≡ false = (or_parts (bytes_eq n n) false f).0 in
     let t : bytes_eq n n ≡ true = texts_same n in
     cc
 
@@ -60,8 +53,8 @@ fresh_more seen n ns e f = record {
 pub repeats_none : (seen ns : List Text) → repeats_after seen ns ≡ false → IsFresh seen ns
 repeats_none seen [] e = fresh_nil seen
 repeats_none seen (n ∷ ns) e =
-    fresh_more seen n ns (none_first (is_among n seen) (repeats_after (seen ++ n ∷ []) ns) e)
-    (repeats_none (seen ++ n ∷ []) ns (none_later (is_among n seen) (repeats_after (seen ++ n ∷ []) ns) e))
+    let parts = or_parts (is_among n seen) (repeats_after (seen ++ n ∷ []) ns) e in
+    fresh_more seen n ns parts.0 (repeats_none (seen ++ n ∷ []) ns parts.1)
 
 new_step : (seen : List Text) (n : Text) (rest : List Text) (r : Bool) → is_among n seen ≡ r
     → IsFresh (seen ++ n ∷ []) rest

@@ -13,7 +13,9 @@ use Rattle.cabal_component.specs.declared.component.Provides.TheVariants.{Whole,
 use Rattle.cabal_component.specs.Entries.{bracket_of, word_bracket, news_repeat, olds_repeat, needs_if, needs_in}
 use Rattle.cabal_component.specs.Entries.{needs_of, mixin, mixin_with, listed_with, hiding_with, entry_at, entry_of}
 use Rattle.cabal_component.specs.Entries.{mixins_of}
-use Rattle.cabal_component.specs.Package.{or_none}
+use Rattle.cabal_stanzas.specs.declared.table.ComponentField.TheVariants as f
+use Rattle.cabal_component.specs.declared.given.Value.TheVariants as v
+use Rattle.cabal_component.specs.Given.{value_of, mixins_in}
 use Rattle.cabal_component.specs.Reading.{resolved_mixin}
 use Rattle.cabal_component.specs.Lawful.{HasNewsApart, IsLawfulEntry}
 use Rattle.cabal_lawful.proofs.ApartLemmas.{repeats_none}
@@ -109,23 +111,20 @@ pub entry_ok : (item : List Text) (m : Mixin) → entry_of item ≡ Some m → I
 entry_ok [] m e = absurd (cc)
 entry_ok (dep ∷ rest) m e = entry_step dep rest m (is_dependency dep) e
 
-or_none_ok : {X : Type 0} (P : X → Type 0) (o : Option (List X)) → ((xs : List X) → o ≡ Some xs → AllByRecursion P xs)
-    → AllByRecursion P (or_none o)
-or_none_ok P None f = tt
-or_none_ok P (Some xs) f = f xs refl
+mixed_ok : (o : Option (List Mixin)) → ((ms : List Mixin) → o ≡ Some ms → AllByRecursion IsLawfulEntry ms)
+    → AllByRecursion IsLawfulEntry (mixins_in (option_map (λ ms. v.Mixins ms) o))
+mixed_ok None f = tt
+mixed_ok (Some ms) f = f ms refl
 
-mixins_ok : (value : Text) → AllByRecursion IsLawfulEntry (or_none (mixins_of value))
-mixins_ok value = or_none_ok IsLawfulEntry (mixins_of value) (λ xs e. each_all entry_of IsLawfulEntry entry_ok _ xs e)
+-- the entries of a value of `mixins`
+pub mixins_ok : (value : Text) → AllByRecursion IsLawfulEntry (mixins_in (value_of f.Mixins value))
+mixins_ok value = mixed_ok (mixins_of value) (λ ms e. each_all entry_of IsLawfulEntry entry_ok _ ms e)
 
-resolved_ok : (owner : Text) (own : Text → Bool) (ms : List Mixin) → AllByRecursion IsLawfulEntry ms
+-- entries whose dependencies are resolved
+pub resolved_ok : (owner : Text) (own : Text → Bool) (ms : List Mixin) → AllByRecursion IsLawfulEntry ms
     → AllByRecursion IsLawfulEntry (map (resolved_mixin owner own) ms)
 resolved_ok owner own [] h = tt
 resolved_ok owner own (m ∷ ms) h = (record { news = h.0.news; olds = h.0.olds }, resolved_ok owner own ms h.1)
-
--- the entries of a value, resolved
-pub all_ok : (owner : Text) (own : Text → Bool) (value : Text)
-    → AllByRecursion IsLawfulEntry (map (resolved_mixin owner own) (or_none (mixins_of value)))
-all_ok owner own value = resolved_ok owner own (or_none (mixins_of value)) (mixins_ok value)
 
 -- each entry is of a dependency
 pub entries_ok : (deps : List Text) (ms : List Mixin)

@@ -1,19 +1,20 @@
 -- The own modules and signatures of a component: no name stands twice among them.
 use Rattle.std.proofs.Common.{◌≡◌, ◌⊎◌, inl, inr, refl, sym, ap, ◌∙◌, subst, ℕ, Bool, true, false, cond, List, [], ◌∷◌}
-use Rattle.std.proofs.Common.{◌++◌, map}
-use Rattle.std.specs.Str.{bytes_eq, str_to_ascii_lowercase}
-use Rattle.bp_base.specs.Lists.{Among, AreDistinct}
+use Rattle.std.proofs.Common.{◌++◌, map, Option}
+use Rattle.std.specs.List.{flat_map}
+use Rattle.std.proofs.lemmas.Bool.{eqb-true}
+use Rattle.bp_base.specs.Lists.{Among, AreDistinct, is_among}
 use Rattle.bp_base.specs.Texts.{Text}
-use Rattle.bp_base.proofs.TextLemmas.{same_texts}
-use Rattle.cabal_text.specs.Fields.{is_word}
-use Rattle.cabal_text.specs.Names.{module_names}
-use Rattle.bp_base.specs.Lists.{is_among}
-use Rattle.cabal_text.proofs.ListedLemmas.{items_none}
-use Rattle.cabal_stanzas.specs.declared.stanzas.Field.{Field}
+use Rattle.bp_base.proofs.SetLemmas.{among-left, among-right, among-either, distinct-left, distinct-right}
+use Rattle.bp_base.proofs.SetLemmas.{distinct-cross, distinct-join}
+use Rattle.cabal_stanzas.specs.declared.table.ComponentField.{ComponentField}
+use Rattle.cabal_stanzas.specs.declared.table.ComponentField.TheVariants.{ExposedModules, OtherModules, Signatures}
+use Rattle.cabal_stanzas.specs.Table.{field_number, is_field}
+use Rattle.cabal_component.specs.declared.given.Given.{Given}
+use Rattle.cabal_component.specs.declared.given.Value.{Value}
 use Rattle.cabal_component.specs.declared.package.Listing.{Listing}
-use Rattle.cabal_component.specs.Package.{or_none, lists_own, place, placed_in, placed, twice_after}
-use Rattle.cabal_component.specs.Reading.{names_named}
-use Rattle.bp_base.proofs.SetLemmas.{among-left, among-right, distinct-left, distinct-right, distinct-cross}
+use Rattle.cabal_component.specs.Given.{value_at, modules_in, modules_at}
+use Rattle.cabal_component.specs.Package.{place, placed_in, twice_after}
 use Rattle.cabal_lawful.proofs.ApartLemmas.{IsFresh, fresh_nil, fresh_more}
 
 abbrev pub listed : List Listing → List Text
@@ -39,115 +40,93 @@ listed_append : (xs ys : List Listing) → listed (xs ++ ys) ≡ listed xs ++ li
 listed_append [] ys = refl
 listed_append (x ∷ xs) ys = ap (λ (m : List Text). x.name ∷ m) (listed_append xs ys)
 
--- what a field lists
-abbrev pub field_names : Field → List Text
-field_names f = or_none (module_names f.value)
+-- the own names of fields, as listed
+abbrev pub names_placed : List Given → List Text
+names_placed gs = listed (flat_map placed_in gs)
 
-owned : (executable : Bool) (f : Field) → lists_own executable f.name ≡ true
-    → listed (placed_in executable f) ≡ field_names f
-owned executable f e = rw e (place_names f.line (field_names f))
+placed_more : (g : Given) (gs : List Given) → names_placed (g ∷ gs) ≡ modules_in g.value ++ names_placed gs
+placed_more g gs = listed_append (placed_in g) (flat_map placed_in gs)
+    ∙ ap (λ (ns : List Text). ns ++ names_placed gs) (place_names g.line (modules_in g.value))
 
-placed_more : (executable : Bool) (f : Field) (fs : List Field)
-    → listed (placed executable (f ∷ fs)) ≡ listed (placed_in executable f) ++ listed (placed executable fs)
-placed_more executable f fs = listed_append (placed_in executable f) (placed executable fs)
+among_step : (a : Text) (r : Bool) (one later : Option Value) (ns : List Text)
+    → (Among a (modules_in later) → Among a ns) → Among a (modules_in (cond r one later))
+    → Among a (modules_in one ++ ns)
+among_step a true one later ns h m = among-left a (modules_in one) ns m
+among_step a false one later ns h m = among-right a (modules_in one) ns (h m)
 
-pub none_named : (name : Text) → names_named name [] ≡ []
-none_named name = rw (items_none [] refl) refl
+-- what a field lists is among the own names
+pub named_among : (v : ComponentField) (a : Text) (gs : List Given) → Among a (modules_at v gs)
+    → Among a (names_placed gs)
+named_among v a [] m = absurd m
+named_among v a (g ∷ gs) m =
+    subst (λ (ns : List Text). Among a ns) (sym (placed_more g gs))
+    (among_step a (is_field g.field v) g.value (value_at v gs) (names_placed gs) (named_among v a gs) m)
 
--- the field of this name lists own names
-abbrev pub Owns : Bool → Text → Type 0
-Owns executable name = (text : Text) → is_word text name ≡ true → lists_own executable text ≡ true
-
-pub named_here : (name : Text) (f : Field) (fs : List Field) → is_word f.name name ≡ true
-    → names_named name (f ∷ fs) ≡ field_names f
-named_here name f fs e = rw e refl
-
-pub named_later : (name : Text) (f : Field) (fs : List Field) → is_word f.name name ≡ false
-    → names_named name (f ∷ fs) ≡ names_named name fs
-named_later name f fs e = rw e refl
-
-among_step : (executable : Bool) (name a : Text) (f : Field) (fs : List Field) (r : Bool) → Owns executable name
-    → is_word f.name name ≡ r
-    → (Among a (names_named name fs) → Among a (listed (placed executable fs))) → Among a (names_named name (f ∷ fs))
-    → Among a (listed (placed_in executable f) ++ listed (placed executable fs))
-among_step executable name a f fs true o e h m =
-    let here : Among a (field_names f) = subst (λ (ns : List Text). Among a ns) (named_here name f fs e) m in
-    let own : Among a (listed (placed_in executable f)) =
-    subst (λ (ns : List Text). Among a ns) (sym (owned executable f (o f.name e))) here in
-    among-left a (listed (placed_in executable f)) (listed (placed executable fs)) own
-among_step executable name a f fs false o e h m =
-    among-right a (listed (placed_in executable f)) (listed (placed executable fs))
-    (h (subst (λ (ns : List Text). Among a ns) (named_later name f fs e) m))
-
--- what the field of a name lists is among the own names
-pub named_among : (executable : Bool) (name a : Text) → Owns executable name → (fs : List Field)
-    → Among a (names_named name fs) → Among a (listed (placed executable fs))
-named_among executable name a o [] h = subst (λ (ns : List Text). Among a ns) (none_named name) h
-named_among executable name a o (f ∷ fs) h =
-    subst (λ (ns : List Text). Among a ns) (sym (placed_more executable f fs))
-    (among_step executable name a f fs (is_word f.name name) o refl (named_among executable name a o fs) h)
-
-distinct_step : (executable : Bool) (name : Text) (f : Field) (fs : List Field) (r : Bool) → Owns executable name
-    → is_word f.name name ≡ r
-    → AreDistinct (listed (placed_in executable f) ++ listed (placed executable fs)) → AreDistinct (names_named name fs)
-    → AreDistinct (names_named name (f ∷ fs))
-distinct_step executable name f fs true o e d h =
-    let own = distinct-left (listed (placed_in executable f)) (listed (placed executable fs)) d in
-    subst (λ (ns : List Text). AreDistinct ns) (owned executable f (o f.name e) ∙ sym (named_here name f fs e)) own
-distinct_step executable name f fs false o e d h =
-    subst (λ (ns : List Text). AreDistinct ns) (sym (named_later name f fs e)) h
+distinct_step : (r : Bool) (one later : Option Value) (ns : List Text) → AreDistinct (modules_in one ++ ns)
+    → AreDistinct (modules_in later) → AreDistinct (modules_in (cond r one later))
+distinct_step true one later ns d h = distinct-left (modules_in one) ns d
+distinct_step false one later ns d h = h
 
 -- what one field lists has no name twice
-pub named_distinct : (executable : Bool) (name : Text) → Owns executable name → (fs : List Field)
-    → AreDistinct (listed (placed executable fs)) → AreDistinct (names_named name fs)
-named_distinct executable name o [] d = subst (λ (ns : List Text). AreDistinct ns) (sym (none_named name)) tt
-named_distinct executable name o (f ∷ fs) d =
-    let parts = subst (λ (ns : List Text). AreDistinct ns) (placed_more executable f fs) d in
-    distinct_step executable name f fs (is_word f.name name) o refl parts
-    (named_distinct executable name o fs (distinct-right (listed (placed_in executable f))
-    (listed (placed executable fs)) parts))
+named_distinct : (v : ComponentField) (gs : List Given) → AreDistinct (names_placed gs) → AreDistinct (modules_at v gs)
+named_distinct v [] d = tt
+named_distinct v (g ∷ gs) d =
+    let parts = subst (λ (ns : List Text). AreDistinct ns) (placed_more g gs) d in
+    distinct_step (is_field g.field v) g.value (value_at v gs) (names_placed gs) parts
+    (named_distinct v gs (distinct-right (modules_in g.value) (names_placed gs) parts))
 
--- no text is both words
-abbrev pub AreApart : Text → Text → Type 0
-AreApart v w = (text : Text) → is_word text v ≡ true → is_word text w ≡ true → ⊥
+-- no field is two
+apart_fields : (g v w : ComponentField) → (field_number v ≡ field_number w → ⊥) → is_field g v ≡ true
+    → is_field g w ≡ true → ⊥
+apart_fields g v w q d e =
+    q (sym (eqb-true (field_number g) (field_number v) d) ∙ eqb-true (field_number g) (field_number w) e)
 
-cross_step : (executable : Bool) (v w a : Text) (f : Field) (fs : List Field) (r s : Bool) → Owns executable v
-    → Owns executable w → AreApart v w
-    → is_word f.name v ≡ r → is_word f.name w ≡ s → AreDistinct
-    (listed (placed_in executable f) ++ listed (placed executable fs))
-    → (Among a (names_named v fs) → Among a (names_named w fs) → ⊥) → Among a (names_named v (f ∷ fs))
-    → Among a (names_named w (f ∷ fs)) → ⊥
-cross_step executable v w a f fs true true o p q d e c h m n = q f.name d e
-cross_step executable v w a f fs true false o p q d e c h m n =
-    let here : Among a (listed (placed_in executable f)) =
-    subst (λ (ns : List Text). Among a ns) (named_here v f fs d ∙ sym (owned executable f (o f.name d))) m in
-    let there = named_among executable w a p fs (subst (λ (ns : List Text). Among a ns) (named_later w f fs e) n) in
-    distinct-cross a (listed (placed_in executable f)) (listed (placed executable fs)) c here there
-cross_step executable v w a f fs false true o p q d e c h m n =
-    let here : Among a (listed (placed_in executable f)) =
-    subst (λ (ns : List Text). Among a ns) (named_here w f fs e ∙ sym (owned executable f (p f.name e))) n in
-    let there = named_among executable v a o fs (subst (λ (ns : List Text). Among a ns) (named_later v f fs d) m) in
-    distinct-cross a (listed (placed_in executable f)) (listed (placed executable fs)) c here there
-cross_step executable v w a f fs false false o p q d e c h m n =
-    h (subst (λ (ns : List Text). Among a ns) (named_later v f fs d) m)
-    (subst (λ (ns : List Text). Among a ns) (named_later w f fs e) n)
+cross_step : (a : Text) (r s : Bool) (one x y : Option Value) (ns : List Text) → (r ≡ true → s ≡ true → ⊥)
+    → AreDistinct (modules_in one ++ ns) → (Among a (modules_in x) → Among a ns)
+    → (Among a (modules_in y) → Among a ns) → (Among a (modules_in x) → Among a (modules_in y) → ⊥)
+    → Among a (modules_in (cond r one x)) → Among a (modules_in (cond s one y)) → ⊥
+cross_step a true true one x y ns q c f g h m n = q refl refl
+cross_step a true false one x y ns q c f g h m n = distinct-cross a (modules_in one) ns c m (g n)
+cross_step a false true one x y ns q c f g h m n = distinct-cross a (modules_in one) ns c n (f m)
+cross_step a false false one x y ns q c f g h m n = h m n
 
 -- what two fields list has no name in common
-pub named_cross : (executable : Bool) (v w a : Text) → Owns executable v → Owns executable w → AreApart v w
-    → (fs : List Field) → AreDistinct (listed (placed executable fs))
-    → Among a (names_named v fs) → Among a (names_named w fs) → ⊥
-named_cross executable v w a o p q [] c m n = subst (λ (ns : List Text). Among a ns) (none_named v) m
-named_cross executable v w a o p q (f ∷ fs) c m n =
-    let parts = subst (λ (ns : List Text). AreDistinct ns) (placed_more executable f fs) c in
-    cross_step executable v w a f fs (is_word f.name v) (is_word f.name w) o p q refl refl parts
-    (named_cross executable v w a o p q fs (distinct-right (listed (placed_in executable f))
-    (listed (placed executable fs)) parts)) m n
+named_cross : (v w : ComponentField) (a : Text) → (field_number v ≡ field_number w → ⊥) → (gs : List Given)
+    → AreDistinct (names_placed gs) → Among a (modules_at v gs) → Among a (modules_at w gs) → ⊥
+named_cross v w a q [] d m n = absurd m
+named_cross v w a q (g ∷ gs) d m n =
+    let parts = subst (λ (ns : List Text). AreDistinct ns) (placed_more g gs) d in
+    cross_step a (is_field g.field v) (is_field g.field w) g.value (value_at v gs) (value_at w gs) (names_placed gs)
+    (apart_fields g.field v w q) parts (named_among v a gs) (named_among w a gs)
+    (named_cross v w a q gs (distinct-right (modules_in g.value) (names_placed gs) parts)) m n
 
--- two words that differ in small letters
-pub other_words : (v w : Text) → bytes_eq (str_to_ascii_lowercase v) (str_to_ascii_lowercase w) ≡ false → AreApart v w
-unfolding is_word
-other_words v w d text e f =
-    let a = same_texts (str_to_ascii_lowercase text) (str_to_ascii_lowercase v) e in
-    let g : bytes_eq (str_to_ascii_lowercase v) (str_to_ascii_lowercase w) ≡ true =
-    subst (λ (x : Text). bytes_eq x (str_to_ascii_lowercase w) ≡ true) a f in
-    absurd (cc)
+-- the modules and signatures of a component
+abbrev pub own_listed : List Given → List Text
+own_listed gs = modules_at ExposedModules gs ++ (modules_at OtherModules gs ++ modules_at Signatures gs)
+
+-- no name stands twice among them
+pub own_distinct : (gs : List Given) → AreDistinct (names_placed gs) → AreDistinct (own_listed gs)
+own_distinct gs d =
+    let exposed = modules_at ExposedModules gs in
+    let others = modules_at OtherModules gs in
+    let signatures = modules_at Signatures gs in
+    distinct-join exposed (others ++ signatures) (named_distinct ExposedModules gs d)
+    (distinct-join others signatures (named_distinct OtherModules gs d) (named_distinct Signatures gs d)
+    (λ a. named_cross OtherModules Signatures a (λ e. absurd (cc)) gs d))
+    (λ a h k. elim (among-either a others signatures k) [
+      | inl o ↦ named_cross ExposedModules OtherModules a (λ e. absurd (cc)) gs d h o
+      | inr s ↦ named_cross ExposedModules Signatures a (λ e. absurd (cc)) gs d h s
+    ])
+
+-- they are among the own names
+pub own_among : (gs : List Given) (a : Text) → Among a (own_listed gs) → Among a (names_placed gs)
+own_among gs a m =
+    let others = modules_at OtherModules gs in
+    let signatures = modules_at Signatures gs in
+    elim (among-either a (modules_at ExposedModules gs) (others ++ signatures) m) [
+      | inl e ↦ named_among ExposedModules a gs e
+      | inr k ↦ elim (among-either a others signatures k) [
+        | inl o ↦ named_among OtherModules a gs o
+        | inr s ↦ named_among Signatures a gs s
+      ]
+    ]

@@ -1,5 +1,6 @@
 pub mod Folder
 pub mod Project
+pub mod Table
 pub mod Stanzas
 pub mod Heads
 pub mod Values

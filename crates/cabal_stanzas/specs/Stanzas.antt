@@ -1,11 +1,17 @@
 -- The fields and stanzas of a package file.
-use Rattle.std.specs.Prelude.{ℕ, Bool, Option, Some, None, List, [], ◌∷◌, ◌++◌, drop, map, codes, nat_lt, ◌==◌, ◌||◌}
-use Rattle.std.specs.Prelude.{◌&&◌, not, is_some, if◌then◌else◌}
+use Rattle.std.specs.Prelude.{ℕ, Bool, Option, Some, None, List, [], ◌∷◌, ◌++◌, map, nat_lt, ◌==◌, ◌||◌, ◌&&◌, not}
+use Rattle.std.specs.Prelude.{is_some, if◌then◌else◌}
 use Rattle.std.specs.List.{filter, filter_map, flat_map}
+use Rattle.std.specs.Str.{str_to_ascii_lowercase}
 use Rattle.cabal_text.specs.declared.lines.Line.{Line}
 use Rattle.cabal_stanzas.specs.declared.stanzas.Field.{Field}
 use Rattle.cabal_text.specs.Lines.{Block, blocks}
-use Rattle.cabal_text.specs.Fields.{field_of, is_word}
+use Rattle.cabal_text.specs.Fields.{field_of}
+use Rattle.cabal_text.specs.Tokens.{is_text}
+
+-- a name in small letters
+unfoldable pub in_small : List ℕ → List ℕ
+in_small name = str_to_ascii_lowercase name
 
 -- a value over several lines: each has a line feed before it
 abbrev pub joined : List ℕ → List Line → List ℕ
@@ -13,7 +19,8 @@ joined value deeper = value ++ flat_map (λ l. 10 ∷ l.text) deeper
 
 abbrev pub field_if : Option (List ℕ × List ℕ) → Line → List Line → Option Field
 field_if None l deeper = None
-field_if (Some field) l deeper = Some (record { line = l.number; name = field.0; value = joined field.1 deeper })
+field_if (Some field) l deeper =
+    Some (record { line = l.number; name = in_small field.0; value = joined field.1 deeper })
 
 -- the field that a block is
 abbrev pub field_in : Block → Option Field
@@ -36,29 +43,15 @@ abbrev pub indent_in : List Line → ℕ
 indent_in [] = 0
 indent_in (l ∷ ls) = l.indent
 
+-- the field has this name
+abbrev pub is_named : List ℕ → Field → Bool
+is_named name f = is_text f.name name
+
 -- the lines of the fields of a name
 abbrev pub lines_named : List ℕ → List Field → List ℕ
-lines_named name fs = map (λ g. g.line) (filter (λ g. is_word g.name name) fs)
-
--- the lines of the fields that give a name again: all but the first
-abbrev pub given_again : List ℕ → List Field → List ℕ
-given_again name fs = drop 1 (lines_named name fs)
-
-abbrev pub shared_again : List Field → List ℕ
-shared_again fs =
-    (given_again (codes "other-modules") fs ++ given_again (codes "build-depends") fs)
-    ++ (given_again (codes "mixins") fs ++ given_again (codes "hs-source-dirs") fs)
-
-abbrev pub library_again : List Field → List ℕ
-library_again fs =
-    given_again (codes "exposed-modules") fs
-    ++ (given_again (codes "signatures") fs ++ given_again (codes "reexported-modules") fs)
-
--- the lines of the fields that are given again, of those that a component reads
-abbrev pub repeated : Bool → List Field → List ℕ
-repeated executable fs = shared_again fs ++ (if executable then given_again (codes "main-is") fs else library_again fs)
+lines_named name fs = map (λ g. g.line) (filter (λ g. is_named name g) fs)
 
 -- the value of the first field of a name; nothing where there is none
 abbrev pub value_named : List ℕ → List Field → List ℕ
 value_named name [] = []
-value_named name (f ∷ fs) = if is_word f.name name then f.value else value_named name fs
+value_named name (f ∷ fs) = if is_named name f then f.value else value_named name fs

@@ -1,20 +1,23 @@
 //! The package's name, and the heads of stanzas.
 ghost use Rattle.std.specs.Prelude.{◌≡◌, List, ℕ, IfOk};
 ghost use Rattle.cabal_text.specs.Least.{least_of};
-ghost use Rattle.cabal_stanzas.specs.Heads.{is_name_value, bad_name, refused_names, leading, package_of, is_ignored, library_head, executable_head, head_words, head_of, named, library_name, component_name};
+ghost use Rattle.cabal_stanzas.specs.declared.heads.Head.TheVariants.{Component};
+ghost use Rattle.cabal_stanzas.specs.Heads.{is_name_value, bad_name, refused_names, leading, package_of, is_ignored, library_head, executable_head, head_words, head_of, head_at, library_name, component_name};
 
-use crate::stanzas::{Field, line_named, value_named};
+use crate::stanzas::{Field, is_named, line_named, value_named};
+use crate::table::Kind;
 use bp_base::{Bytes, Name, is_package_name};
-use cabal_text::fields::{first_word, is_word};
+use cabal_text::fields::{field_of, first_word, is_word};
 use cabal_text::least::sooner;
+use cabal_text::lines::Line;
 use cabal_text::tokens::tokens_of;
 use std::alloc::{AllocError, Global};
 
-/// What a head begins: a component, or a stanza of another kind.
-#[derive(Clone, Copy, Debug)]
+/// What the head of a stanza begins.
+#[derive(Debug, Drop)]
 pub enum Head {
-    Library,
-    Executable,
+    /// A component of a kind; the package's own library has the empty name.
+    Component { kind: Kind, name: Name },
     Common,
     Ignored,
     Other,
@@ -49,7 +52,7 @@ pub fn name_line(alloc: Global, fields: &[Field]) -> Result<Option<u64>, AllocEr
 {
     let mut rest = fields;
     while let [field, after @ ..] = rest {
-        if is_word(field.name.as_bytes(), b"name") {
+        if is_named(b"name", field) {
             let bad = bad_name(alloc, field)?;
             return Ok(sooner(bad, line_named(b"name", after)));
         }
@@ -71,28 +74,42 @@ fn is_ignored(word: &[u8]) -> bool
         || is_word(word, b"foreign-library")
 }
 
-fn library_head(words: &[Bytes]) -> Head
-    ensures { result ≡ library_head words.now }
+/// The head of a component.
+fn component_head(alloc: Global, kind: Kind, name: &[u8]) -> Result<Head, AllocError>
+    ensures { IfOk result (λ head. head ≡ Component kind name.now) }
+{
+    Ok(Head::Component {
+        kind,
+        name: Name::from_bytes(alloc, name)?,
+    })
+}
+
+fn library_head(alloc: Global, words: &[Bytes]) -> Result<Head, AllocError>
+    ensures { IfOk result (λ head. head ≡ library_head words.now) }
 {
     match words {
-        [] => Head::Library,
-        [name] if is_package_name(name.as_bytes()) => Head::Library,
-        _ => Head::Other,
+        [] => component_head(alloc, Kind::Library, b""),
+        [name] if is_package_name(name.as_bytes()) => {
+            component_head(alloc, Kind::Library, name.as_bytes())
+        },
+        _ => Ok(Head::Other),
     }
 }
 
-fn executable_head(words: &[Bytes]) -> Head
-    ensures { result ≡ executable_head words.now }
+fn executable_head(alloc: Global, words: &[Bytes]) -> Result<Head, AllocError>
+    ensures { IfOk result (λ head. head ≡ executable_head words.now) }
 {
     match words {
-        [name] if is_package_name(name.as_bytes()) => Head::Executable,
-        _ => Head::Other,
+        [name] if is_package_name(name.as_bytes()) => {
+            component_head(alloc, Kind::Executable, name.as_bytes())
+        },
+        _ => Ok(Head::Other),
     }
 }
 
 /// The words of a head: the first one ends at a space.
 #[tactic(auto, using(crate::proofs::HeadLemmas::first_word_within))]
-pub fn head_words(alloc: Global, text: &[u8]) -> Result<Vec<Bytes>, AllocError>
+fn head_words(alloc: Global, text: &[u8]) -> Result<Vec<Bytes>, AllocError>
     ensures { IfOk result (λ words. words.items ≡ head_words text.now) }
 {
     let first = first_word(text);
@@ -103,27 +120,38 @@ pub fn head_words(alloc: Global, text: &[u8]) -> Result<Vec<Bytes>, AllocError>
 }
 
 /// What the words of a head begin.
-pub fn head_of(words: &[Bytes]) -> Head
-    ensures { result ≡ head_of words.now }
+fn head_of(alloc: Global, words: &[Bytes]) -> Result<Head, AllocError>
+    ensures { IfOk result (λ head. head ≡ head_of words.now) }
 {
     let [word, rest @ ..] = words else {
-        return Head::Other;
+        return Ok(Head::Other);
     };
     let word = word.as_bytes();
     if is_word(word, b"library") {
-        return library_head(rest);
+        return library_head(alloc, rest);
     }
     if is_word(word, b"executable") {
-        return executable_head(rest);
+        return executable_head(alloc, rest);
     }
     if is_word(word, b"common") {
-        return Head::Common;
+        return Ok(Head::Common);
     }
     if is_ignored(word) {
-        Head::Ignored
+        Ok(Head::Ignored)
     } else {
-        Head::Other
+        Ok(Head::Other)
     }
+}
+
+/// The head that a line of indent 0 is; none where it is a field.
+pub fn head_at(alloc: Global, line: &Line) -> Result<Option<Head>, AllocError>
+    ensures { IfOk result (λ head. head ≡ head_at line.now) }
+{
+    if field_of(line.text.as_bytes()).is_some() {
+        return Ok(None);
+    }
+    let words = head_words(alloc, line.text.as_bytes())?;
+    Ok(Some(head_of(alloc, &words)?))
 }
 
 /// The first word, or nothing.
@@ -144,16 +172,6 @@ pub fn package_of(alloc: Global, fields: &[Field]) -> Result<Name, AllocError>
     Name::from_bytes(alloc, leading(&words))
 }
 
-/// The name behind the first word of a head, or nothing.
-pub fn named(words: &[Bytes]) -> &[u8]
-    ensures { result.now ≡ named words.now }
-{
-    match words {
-        [_, rest @ ..] => leading(rest),
-        [] => b"",
-    }
-}
-
 /// The name of a library of a package.
 pub fn library_name(alloc: Global, owner: &[u8], name: &[u8]) -> Result<Name, AllocError>
     ensures { IfOk result (λ found. found ≡ library_name owner.now name.now) }
@@ -170,16 +188,18 @@ pub fn library_name(alloc: Global, owner: &[u8], name: &[u8]) -> Result<Name, Al
 pub fn component_name(
     alloc: Global,
     owner: &[u8],
-    executable: bool,
+    kind: Kind,
     name: &[u8],
 ) -> Result<Name, AllocError>
-    ensures { IfOk result (λ found. found ≡ component_name owner.now executable name.now) }
+    ensures { IfOk result (λ found. found ≡ component_name owner.now kind name.now) }
 {
-    if !executable {
-        return library_name(alloc, owner, name);
+    match kind {
+        Kind::Library => library_name(alloc, owner, name),
+        Kind::Executable => {
+            let mut text = owner.to_vec(alloc)?;
+            text.extend_from_slice(b":exe:")?;
+            text.extend_from_slice(name)?;
+            Ok(Name::from_vec(text))
+        }
     }
-    let mut text = owner.to_vec(alloc)?;
-    text.extend_from_slice(b":exe:")?;
-    text.extend_from_slice(name)?;
-    Ok(Name::from_vec(text))
 }

@@ -6,6 +6,7 @@ pub mod folder;
 pub mod heads;
 pub mod project;
 pub mod stanzas;
+pub mod table;
 pub mod values;
 
 pub use folder::{Paths, copied_paths};

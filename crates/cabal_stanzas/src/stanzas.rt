@@ -1,20 +1,28 @@
 //! The fields and stanzas of a package file.
-ghost use Rattle.std.specs.Prelude.{◌≡◌, List, ℕ, IfOk, codes, if◌then◌else◌};
+ghost use Rattle.std.specs.Prelude.{◌≡◌, List, ℕ, IfOk};
 ghost use Rattle.cabal_text.specs.Least.{least_of};
-ghost use Rattle.cabal_stanzas.specs.Stanzas.{joined, fields_at, is_odd, odd_lines, indent_in, lines_named, given_again, shared_again, library_again, repeated, value_named};
+ghost use Rattle.cabal_stanzas.specs.Stanzas.{in_small, joined, is_named, fields_at, is_odd, odd_lines, indent_in, lines_named, value_named};
 
 use bp_base::Bytes;
-use cabal_text::fields::{field_of, is_word};
+use cabal_text::fields::field_of;
 use cabal_text::least::sooner;
 use cabal_text::lines::{Line, deeper_len};
 use std::alloc::{AllocError, Global};
 
-/// A field with its value over all its lines.
+/// A field with its name in small letters and its value over all its lines.
 #[derive(Debug, Drop)]
 pub struct Field {
     pub line: u64,
     pub name: Bytes,
     pub value: Bytes,
+}
+
+/// A name in small letters.
+#[tactic(auto, unfolding(crate::specs::Stanzas::in_small))]
+fn in_small(alloc: Global, name: &[u8]) -> Result<Bytes, AllocError>
+    ensures { IfOk result (λ small. small ≡ in_small name.now) }
+{
+    Ok(Bytes::from_vec(name.to_ascii_lowercase(alloc)?))
 }
 
 /// A value over several lines.
@@ -42,7 +50,7 @@ pub fn fields_at(alloc: Global, indent: usize, lines: &[Line]) -> Result<Vec<Fie
             let deeper = &after[..deeper_len(indent, after)];
             fields.push(Field {
                 line: line.number,
-                name: Bytes::from_bytes(alloc, name)?,
+                name: in_small(alloc, name)?,
                 value: joined(alloc, value, deeper)?,
             })?;
         }
@@ -81,78 +89,24 @@ pub fn indent_in(lines: &[Line]) -> usize
     }
 }
 
+/// Whether a field has this name.
+pub fn is_named(name: &[u8], field: &Field) -> bool
+    ensures { result ≡ is_named name.now field.now }
+{
+    field.name.as_bytes() == name
+}
+
 /// The first field of this name.
 pub fn line_named(name: &[u8], fields: &[Field]) -> Option<u64>
     ensures { result ≡ least_of (lines_named name.now fields.now) }
 {
     let mut least = None;
     for field in fields {
-        if is_word(field.name.as_bytes(), name) {
+        if is_named(name, field) {
             least = sooner(least, Some(field.line));
         }
     }
     least
-}
-
-/// The first field that gives this name again.
-fn again_line(name: &[u8], fields: &[Field]) -> Option<u64>
-    ensures { result ≡ least_of (given_again name.now fields.now) }
-{
-    let mut rest = fields;
-    while let [field, after @ ..] = rest {
-        if is_word(field.name.as_bytes(), name) {
-            return line_named(name, after);
-        }
-        rest = after;
-    }
-    None
-}
-
-#[tactic(auto, using(cabal_text::proofs::SoonerLemmas::least_append))]
-fn shared_again_line(fields: &[Field]) -> Option<u64>
-    ensures { result ≡ least_of (shared_again fields.now) }
-{
-    let one = sooner(
-        again_line(b"other-modules", fields),
-        again_line(b"build-depends", fields),
-    );
-    let other = sooner(
-        again_line(b"mixins", fields),
-        again_line(b"hs-source-dirs", fields),
-    );
-    sooner(one, other)
-}
-
-#[tactic(auto, using(cabal_text::proofs::SoonerLemmas::least_append))]
-fn library_again_line(fields: &[Field]) -> Option<u64>
-    ensures { result ≡ least_of (library_again fields.now) }
-{
-    let other = sooner(
-        again_line(b"signatures", fields),
-        again_line(b"reexported-modules", fields),
-    );
-    sooner(again_line(b"exposed-modules", fields), other)
-}
-
-fn kind_again_line(executable: bool, fields: &[Field]) -> Option<u64>
-    ensures { result ≡ least_of (if executable then given_again (codes "main-is") fields.now else library_again fields.now) }
-{
-    if executable {
-        again_line(b"main-is", fields)
-    } else {
-        library_again_line(fields)
-    }
-}
-
-/// The first field that is given again, of those that a component reads.
-#[tactic(auto, using(cabal_text::proofs::SoonerLemmas::least_append))]
-pub fn repeated_line(executable: bool, fields: &[Field]) -> Option<u64>
-    ensures { result ≡ least_of (repeated executable fields.now) }
-{
-    sooner(
-        shared_again_line(fields),
-        kind_again_line(executable, fields),
-    )
 }
 
 /// The value of the first field of a name; nothing where there is none.
@@ -161,7 +115,7 @@ pub fn value_named<'a>(name: &[u8], fields: &'a [Field]) -> &'a [u8]
 {
     let mut rest = fields;
     while let [field, after @ ..] = rest {
-        if is_word(field.name.as_bytes(), name) {
+        if is_named(name, field) {
             return field.value.as_bytes();
         }
         rest = after;

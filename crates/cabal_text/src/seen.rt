@@ -10,13 +10,6 @@ use sqlite_items::Items;
 use std::alloc::{AllocError, Global};
 use std::collections::HashSet;
 
-/// Whether a name is one of these.
-pub fn is_among(name: &[u8], names: &[Name]) -> bool
-    ensures { result ≡ is_among name.now names.now }
-{
-    names.iter().any(|each| name == each.as_bytes())
-}
-
 /// Adds a name, and answers whether it is new. The set stays as it is where memory is wanting.
 pub fn add_name(alloc: Global, seen: &mut HashSet<Name>, name: &Name) -> Result<bool, AllocError>
     ensures new { IfOk result (λ added. added ≡ not (contains bytes_eq seen.old name.now)) }
