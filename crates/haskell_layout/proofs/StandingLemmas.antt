@@ -53,8 +53,8 @@ gone_laid length index token tokens rest (Some moved) answer laid e =
     subst (λ out. LaidOut length (token ∷ tokens) out) is
     (made_before length (token ∷ tokens) (token ∷ more) moved.made (given token tokens more (laid _ more inverted.1)))
 
-from_laid : (length : ℕ) (tokens : List Token) (index : ℕ) (state : State) (answer : List Token) →
-    layout_from length tokens index state ≡ Ok answer → LaidOut length tokens answer
+from_laid : (length : ℕ) (tokens : List Token) (index : ℕ) (state : State)
+    (answer : List Token) → layout_from length tokens index state ≡ Ok answer → LaidOut length tokens answer
 from_laid length [] index state answer e = ended_laid length index state (finds s.Explicit state.stack) answer e
 from_laid length (token ∷ tokens) index state answer e =
     gone_laid length index token tokens (λ next. layout_from length tokens (index + 1) next)

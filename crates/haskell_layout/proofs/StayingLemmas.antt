@@ -237,7 +237,8 @@ ended_stays source_length index false false closing answer none is e =
     let out : made_tokens closing source_length ≡ answer = cc in
     sym out ∙ ap (λ (made : List Made). made_tokens made source_length) is
 
-from_stays : (source_length : ℕ) (tokens : List Token) (index : ℕ) (state : State) (answer : List Token) →
+from_stays : (source_length : ℕ) (tokens : List Token) (index : ℕ)
+    (state : State) (answer : List Token) →
     none_due state.due tokens ≡ true → IsPlain state.stack → layout_from source_length tokens index state ≡ Ok answer
     → answer ≡ tokens
 from_stays source_length [] index state answer none plain e =

@@ -330,8 +330,8 @@ module _ (es : List Equation) (lawful : IsLawful es) (nodes : List Node) (s : Is
         list-tail : {A : Type 0} {a b : A} {l k : List A} → a ∷ l ≡ b ∷ k → l ≡ k
         list-tail e = cc
 
-    fitting : (u v : OfUnit) (m n : Text) (k : ℕ) → In nodes (Module u m) k → In nodes (Module v n) k
-        → Fit (out-Unit u).fills (out-Unit v).fills
+    fitting : (u v : OfUnit) (m n : Text) (k : ℕ) → In nodes (Module u m) k → In nodes
+        (Module v n) k → Fit (out-Unit u).fills (out-Unit v).fills
     fitting u v m n k p q =
         let here = unit-listed u m k p in
         let there = unit-listed v n k q in
@@ -358,8 +358,8 @@ module _ (es : List Equation) (lawful : IsLawful es) (nodes : List Node) (s : Is
         let rest : composed us f ≡ r = fitted us ws r a.2 b (λ z h. below z (inr h)) in
         λ w. record { hole = a.0 w; ident = first w } ∷ rest w
 
-    fill-light : (u : OfUnit) (m : Text) (k : ℕ) → In nodes (Module u m) k → (x : Fill) → Among x (out-Unit u).fills
-        → weight x.ident < weight (Module u m)
+    fill-light : (u : OfUnit) (m : Text) (k : ℕ) → In nodes (Module u m) k → (x : Fill) → Among x
+        (out-Unit u).fills → weight x.ident < weight (Module u m)
     fill-light u m k p x a = fill-lighter u m x.hole x.ident
         (found-among (out-Unit u).fills x (lawful.rising u (unit-listed u m k p)) a)
 

@@ -381,8 +381,8 @@ ready-falls nodes built e r lt = unbuilt-falls nodes built e r.listed.0 r.listed
     (record { within = lt; none = r.new })
 
 -- the class of a ready entry has a place
-ready-within : (es : List Equation) (nodes : List Node) → IsTable es nodes
-    → (built : List (Option Ident)) (e : ClassBuilt)
+ready-within : (es : List Equation) (nodes : List Node)
+    → IsTable es nodes → (built : List (Option Ident)) (e : ClassBuilt)
     → length built ≡ length nodes → IsReady nodes built e → e.class < length built
 ready-within es nodes table built e len r = let p = r.listed.1 in let lt = table.below p.0 p.1 in let c = p.3 in
     omega (arith, lt, c, len)

@@ -229,8 +229,8 @@ module _ (table : List Ident) where
             (place-upto (length table) p.0 (slice_get_within table p.0 t p.1)),
       )
 
-pub first-table : (es : List Equation) (table : List Ident) → IsIdentTable table → HasTerms es table
-    → IsTable es (nodes_of table (upto (length table)))
+pub first-table : (es : List Equation) (table : List Ident) → IsIdentTable table
+    → HasTerms es table → IsTable es (nodes_of table (upto (length table)))
 first-table es table is terms = record {
   listed = λ t h. first-listed table t (terms.listed t h);
   only = λ x h. terms.only x.ident (place-Among x.ident table x.class (first-number table x h));

@@ -19,7 +19,8 @@ use Rattle.hole_unify.proofs.NumberingLemmas.{class-of}
 -- ---- nodes of numbers
 
 -- the node of each number
-pub node-front : (table : List Ident) (classes : List ℕ) (i : ℕ) → length classes ≤ length table → i < length classes
+pub node-front : (table : List Ident) (classes : List ℕ) (i : ℕ) → length classes ≤ length table
+    → i < length classes
     → drop i (nodes_of table classes) ≡ node_at table classes i ∷ drop (i + 1) (nodes_of table classes)
 node-front table classes i le lt = let e : i + 1 ≡ suc i = omega arith in
     go table classes i le lt ∙ ap (λ n. node_at table classes i ∷ drop n (nodes_of table classes)) (sym e)

@@ -176,8 +176,8 @@ unbuilt-set (Some m ∷ built) zero n lt e = cc
 unbuilt-set (None ∷ built) (suc k) n lt e = let r = unbuilt-set built k n (omega (arith, lt)) e in omega (arith, r)
 unbuilt-set (Some m ∷ built) (suc k) n lt e = unbuilt-set built k n (omega (arith, lt)) e
 
-pub node-among : (table : List Ident) (classes : List ℕ) (i : ℕ) → length classes ≤ length table → i < length classes
-    → Among (node_at table classes i) (nodes_of table classes)
+pub node-among : (table : List Ident) (classes : List ℕ) (i : ℕ)
+    → length classes ≤ length table → i < length classes → Among (node_at table classes i) (nodes_of table classes)
 node-among table classes i le lt = Among-drop (node_at table classes i) (nodes_of table classes) i
     (subst (λ l. Among (node_at table classes i) l) (sym (node-front table classes i le lt)) (inl refl))
 

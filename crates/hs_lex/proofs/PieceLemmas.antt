@@ -23,8 +23,8 @@ use Rattle.hs_lex.proofs.RunLemmas.{run_longest, fixed_longest, one_longest, ahe
 use Rattle.hs_lex.proofs.CapitalLemmas.{front_is}
 
 -- on the ways to cut the text the two spellings agree
-split_longest : {A : Type 0} (g g' : Spelling A) (bs : List ℕ) (x : A) (n : ℕ)
-    → ((ys r : List ℕ) → ys ++ r ≡ bs → g ys r ≡ g' ys r) → Longest g' bs x n → Longest g bs x n
+split_longest : {A : Type 0} (g g' : Spelling A) (bs : List ℕ) (x : A)
+    (n : ℕ) → ((ys r : List ℕ) → ys ++ r ≡ bs → g ys r ≡ g' ys r) → Longest g' bs x n → Longest g bs x n
 split_longest g g' bs x n by l = record {
   within = l.within;
   spelled = by (take n bs) (drop n bs) (take-append-drop n bs) ∙ l.spelled;

@@ -263,8 +263,8 @@ module _ (limit : Option ℕ) where
     room = omega (arith, ap length at);
   }
 
-  bracket_refused : (before bad more : Ts) (x : APatTree) → (apat_form limit).Good x
-      → spelling_apat x ≡ t.LeftBracket ∷ (before ++ more) →
+  bracket_refused : (before bad more : Ts) (x : APatTree) →
+      (apat_form limit).Good x → spelling_apat x ≡ t.LeftBracket ∷ (before ++ more) →
       ((s : Ts) (other : APatTree) (after : Ts) → SameStart bad s → (apat_form limit).Good other
       → BracketCase other (before ++ s) after → ⊥) →
       Refuses (apat_form limit) (t.LeftBracket ∷ before) bad

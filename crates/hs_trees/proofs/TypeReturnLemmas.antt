@@ -156,8 +156,8 @@ module _ (limit : Option ℕ) where
     room = omega (arith, ap length at);
   }
 
-  pub bracket_too_deep : (ts : List Terminal) → (Within limit 1 → ⊥) → begins is_right_bracket ts ≡ false →
-      Rejects (atype_form limit) (t.LeftBracket ∷ ts) (length ts)
+  pub bracket_too_deep : (ts : List Terminal) → (Within limit 1 → ⊥)
+      → begins is_right_bracket ts ≡ false → Rejects (atype_form limit) (t.LeftBracket ∷ ts) (length ts)
   bracket_too_deep ts over ends = record {
     before = t.LeftBracket ∷ [];
     bad = ts;

@@ -107,8 +107,8 @@ pub hops_in-con : (bs : List Bound) (n : _) (k : _) → hops_in bs (con (named n
 hops_in-con [] n k = refl
 hops_in-con (b ∷ bs) n k = hops_in-con bs n k
 
-hops_in-push : (bs : List Bound) (b : Bound) (t : Plain)
-    → hops_in (bs ++ b ∷ []) t ≡ hops_in bs t + hops_in (b ∷ []) (resolved bs t)
+hops_in-push : (bs : List Bound) (b : Bound)
+    (t : Plain) → hops_in (bs ++ b ∷ []) t ≡ hops_in bs t + hops_in (b ∷ []) (resolved bs t)
 hops_in-push bs b (app f a) = rw (hops_in-app, hops_in-app, resolved-app) refl
 hops_in-push bs b (con (rigid i)) = rw (hops_in-rigid, hops_in-rigid, resolved-rigid) refl
 hops_in-push bs b (con (named n k)) = rw (hops_in-con, hops_in-con, resolved-con) refl

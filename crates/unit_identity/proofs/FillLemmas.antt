@@ -34,8 +34,8 @@ pub filled_unit-out : (u : OfUnit) (fs : List Fill)
 unfolding out-Unit out
 filled_unit-out (Unit' c s r) fs = ap (λ l. roll-Unit (record { component = c; fills = l })) (filled-row c s r fs)
 
-pub filled_unit-roll : (c : List ℕ) (l : List Fill) (fs : List Fill)
-    → filled_unit (roll-Unit (record { component = c; fills = l })) fs ≡ roll-Unit
+pub filled_unit-roll : (c : List ℕ) (l : List Fill)
+    (fs : List Fill) → filled_unit (roll-Unit (record { component = c; fills = l })) fs ≡ roll-Unit
     (record { component = c; fills = composed l fs })
 filled_unit-roll c l fs = filled_unit-out (roll-Unit (record { component = c; fills = l })) fs
     ∙ search (rules, the_lemmas)
