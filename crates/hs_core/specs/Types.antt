@@ -127,7 +127,7 @@ any t = true
 abbrev pub TypeAssignment : Type 0
 TypeAssignment = Assignment ℕ ℕ OrigName
 
--- the types that a list has for the variables from 0; a variable past its end stays
+-- the types that a list has for the variables from 0; one past its end, less their number
 abbrev pub listed : List TypeTerm → TypeAssignment
 listed [] i = var i
 listed (t ∷ ts) zero = t
