@@ -1,5 +1,5 @@
 -- The test whether a component is lawful decides it.
-use Rattle.std.proofs.Common.{◌≡◌, ◌⊎◌, inl, inr, refl, sym, ap, ◌∙◌, subst, ℕ, Bool, true, false, ◌&&◌, ◌||◌, not}
+use Rattle.std.proofs.Common.{◌≡◌, inl, inr, refl, sym, ap, ◌∙◌, subst, Bool, true, false, ◌&&◌, ◌||◌, not}
 use Rattle.std.proofs.Common.{cond, List, [], ◌∷◌, ◌++◌, map, length, arith}
 use Rattle.std.specs.Prelude.{◌↔◌, IsTrue, ◌==◌}
 use Rattle.std.specs.List.{AllByRecursion}
@@ -7,14 +7,14 @@ use Rattle.std.specs.Str.{bytes_eq}
 use Rattle.std.proofs.lemmas.Bool.{and_parts, and_from, not-true, eqb-true}
 use Rattle.bp_base.specs.Lists.{Among, AreDistinct, is_among}
 use Rattle.bp_base.specs.Texts.{Text}
-use Rattle.bp_base.proofs.SetLemmas.{is_among-there, there-is_among, among-right, distinct-twice}
+use Rattle.bp_base.proofs.SetLemmas.{is_among-there, there-is_among}
 use Rattle.cabal_text.specs.Seen.{repeats_after, repeats}
 use Rattle.cabal_component.specs.declared.component.Component.{Component}
 use Rattle.cabal_component.specs.declared.component.Mixin.{Mixin}
 use Rattle.cabal_component.specs.declared.component.Provides.{Provides}
 use Rattle.cabal_component.specs.declared.component.Provides.TheVariants.{Whole, Listed, Hiding}
 use Rattle.cabal_component.specs.Lawful.{own_names, HasNewsApart, IsLawfulEntry, IsLawful}
-use Rattle.cabal_lawful.specs.Tested.{are_apart, has_news_apart, has_olds_apart, is_lawful_entry, are_lawful_entries}
+use Rattle.cabal_lawful.specs.Tested.{are_apart, has_news_apart, are_lawful_entries}
 use Rattle.cabal_lawful.specs.Tested.{has_form}
 use Rattle.cabal_lawful.proofs.ApartLemmas.{repeats_none, is_at_end}
 
