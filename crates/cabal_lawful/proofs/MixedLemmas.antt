@@ -1,6 +1,7 @@
 -- The entries of `mixins` that are read.
-use Rattle.std.proofs.Common.{◌≡◌, inl, inr, refl, subst, Bool, true, false, ◌==◌, cond, codes, List, [], ◌∷◌, length}
+use Rattle.std.proofs.Common.{◌≡◌, inl, inr, refl, Bool, true, false, ◌==◌, cond, codes, List, [], ◌∷◌, length}
 use Rattle.std.proofs.Common.{map, Option, Some, None, option_map}
+use Rattle.std.specs.Prelude.{IfSome}
 use Rattle.std.specs.List.{AllByRecursion}
 use Rattle.bp_base.specs.declared.linking.Rename.{Rename}
 use Rattle.bp_base.specs.Lists.{Among, AreDistinct}
@@ -20,105 +21,84 @@ use Rattle.cabal_component.specs.Reading.{resolved_mixin}
 use Rattle.cabal_component.specs.Lawful.{HasNewsApart, IsLawfulEntry}
 use Rattle.cabal_lawful.proofs.ApartLemmas.{repeats_none}
 
-each_step : {X : Type 0} (P : X → Type 0) (o : Option X) (m : Option (List X)) (xs : List X)
-    → ((x : X) → o ≡ Some x → P x)
-    → ((ys : List X) → m ≡ Some ys → AllByRecursion P ys) → cons_if o m ≡ Some xs → AllByRecursion P xs
-each_step P None m xs f g e = absurd (cc)
-each_step P (Some x) None xs f g e = absurd (cc)
-each_step {X} P (Some x) (Some ys) xs f g e =
-    let k : x ∷ ys ≡ xs = cc in
-    subst (λ (zs : List X). AllByRecursion P zs) k (f x refl, g ys refl)
+each_step : {X : Type 0} (P : X → Type 0) (o : Option X) (m : Option (List X)) → IfSome o P
+    → IfSome m (AllByRecursion P) → IfSome (cons_if o m) (AllByRecursion P)
+each_step P None m h k = tt
+each_step P (Some x) None h k = tt
+each_step P (Some x) (Some xs) h k = (h, k)
 
 -- where each item that is read has a property, all have it
-pub each_all : {A X : Type 0} (reads : A → Option X) (P : X → Type 0) → ((item : A) (x : X) → reads item ≡ Some x → P x)
-    → (items : List A) (xs : List X) → each_read reads items ≡ Some xs → AllByRecursion P xs
-each_all {A} {X} reads P f [] xs e =
-    let k : [] ≡ xs = cc in
-    subst (λ (zs : List X). AllByRecursion P zs) k tt
-each_all reads P f (item ∷ items) xs e =
-    each_step P (reads item) (each_read reads items) xs (f item) (λ ys. each_all reads P f items ys) e
+each_all : {A X : Type 0} (reads : A → Option X) (P : X → Type 0) → ((item : A) → IfSome (reads item) P)
+    → (items : List A) → IfSome (each_read reads items) (AllByRecursion P)
+each_all reads P f [] = tt
+each_all reads P f (item ∷ items) =
+    each_step P (reads item) (each_read reads items) (f item) (each_all reads P f items)
+
+cond_some : {X : Type 0} (P : X → Type 0) (r : Bool) (one other : Option X) → (r ≡ true → IfSome one P)
+    → (r ≡ false → IfSome other P) → IfSome (cond r one other) P
+cond_some P true one other f g = f refl
+cond_some P false one other f g = g refl
 
 -- no two renamings of requirements have one old name
 abbrev HasOldsApart : List Rename → Type 0
 HasOldsApart needs = AreDistinct (map (λ (r : Rename). r.from) needs)
 
-olds_step : (ns needs : List Rename) (r : Bool) → olds_repeat ns ≡ r → cond r None (Some ns) ≡ Some needs
-    → HasOldsApart needs
-olds_step ns needs true q e = absurd (cc)
-olds_step ns needs false q e =
-    let k : ns ≡ needs = cc in
-    subst HasOldsApart k ((repeats_none [] (map (λ (r : Rename). r.from) ns) q).distinct)
+needs_if_ok : (o : Option (List Rename)) → IfSome (needs_if o) HasOldsApart
+needs_if_ok None = tt
+needs_if_ok (Some ns) =
+    cond_some HasOldsApart (olds_repeat ns) None (Some ns) (λ q. tt)
+    (λ q. (repeats_none [] (map (λ (r : Rename). r.from) ns) q).distinct)
 
-needs_if_ok : (o : Option (List Rename)) (needs : List Rename) → needs_if o ≡ Some needs → HasOldsApart needs
-needs_if_ok None needs e = absurd (cc)
-needs_if_ok (Some ns) needs e = olds_step ns needs (olds_repeat ns) refl e
+needs_in_ok : (o : Option (List Text × List Text)) → IfSome (needs_in o) HasOldsApart
+needs_in_ok None = tt
+needs_in_ok (Some x) =
+    cond_some HasOldsApart (length x.1 == 0) (needs_if (renames_of x.0)) None (λ q. needs_if_ok (renames_of x.0))
+    (λ q. tt)
 
-needs_cut : (r : Bool) (o : Option (List Rename)) (needs : List Rename) → cond r (needs_if o) None ≡ Some needs
-    → HasOldsApart needs
-needs_cut true o needs e = needs_if_ok o needs e
-needs_cut false o needs e = absurd (cc)
+needs_ok : (tokens : List Text) → IfSome (needs_of tokens) HasOldsApart
+needs_ok [] = tt
+needs_ok (token ∷ tokens) = needs_in_ok (word_bracket (codes "requires") (token ∷ tokens))
 
-needs_in_ok : (o : Option (List Text × List Text)) (needs : List Rename) → needs_in o ≡ Some needs → HasOldsApart needs
-needs_in_ok None needs e = absurd (cc)
-needs_in_ok (Some x) needs e = needs_cut (length x.1 == 0) (renames_of x.0) needs e
+with_step : (dep : Text) (provides : Provides) (o : Option (List Rename)) → HasNewsApart provides
+    → IfSome o HasOldsApart → IfSome (option_map (λ needs. mixin dep provides needs) o) IsLawfulEntry
+with_step dep provides None n h = tt
+with_step dep provides (Some needs) n h = record { news = n; olds = h }
 
-needs_ok : (tokens : List Text) (needs : List Rename) → needs_of tokens ≡ Some needs → HasOldsApart needs
-needs_ok [] needs e =
-    let k : [] ≡ needs = cc in
-    subst HasOldsApart k tt
-needs_ok (token ∷ tokens) needs e = needs_in_ok (word_bracket (codes "requires") (token ∷ tokens)) needs e
+with_ok : (dep : Text) (provides : Provides) (rest : List Text) → HasNewsApart provides
+    → IfSome (mixin_with dep provides rest) IsLawfulEntry
+with_ok dep provides rest n = with_step dep provides (needs_of rest) n (needs_ok rest)
 
-with_step : (dep : Text) (provides : Provides) (o : Option (List Rename)) (m : Mixin) → HasNewsApart provides
-    → ((needs : List Rename) → o ≡ Some needs → HasOldsApart needs)
-    → option_map (λ needs. mixin dep provides needs) o ≡ Some m → IsLawfulEntry m
-with_step dep provides None m n f e = absurd (cc)
-with_step dep provides (Some needs) m n f e =
-    let k : mixin dep provides needs ≡ m = cc in
-    subst IsLawfulEntry k (record { news = n; olds = f needs refl })
+listed_ok : (dep : Text) (o : Option (List Rename)) (rest : List Text) → IfSome (listed_with dep o rest) IsLawfulEntry
+listed_ok dep None rest = tt
+listed_ok dep (Some items) rest =
+    cond_some IsLawfulEntry (news_repeat items) None (mixin_with dep (Listed items) rest) (λ q. tt)
+    (λ q. with_ok dep (Listed items) rest ((repeats_none [] (map (λ (r : Rename). r.to) items) q).distinct))
 
-with_ok : (dep : Text) (provides : Provides) (rest : List Text) (m : Mixin) → HasNewsApart provides
-    → mixin_with dep provides rest ≡ Some m → IsLawfulEntry m
-with_ok dep provides rest m n e = with_step dep provides (needs_of rest) m n (needs_ok rest) e
+hiding_ok : (dep : Text) (o : Option (List Text)) (rest : List Text) → IfSome (hiding_with dep o rest) IsLawfulEntry
+hiding_ok dep None rest = tt
+hiding_ok dep (Some names) rest = with_ok dep (Hiding names) rest tt
 
-news_step : (dep : Text) (items : List Rename) (rest : List Text) (m : Mixin) (r : Bool) → news_repeat items ≡ r
-    → cond r None (mixin_with dep (Listed items) rest) ≡ Some m → IsLawfulEntry m
-news_step dep items rest m true q e = absurd (cc)
-news_step dep items rest m false q e = with_ok dep (Listed items) rest m
-    ((repeats_none [] (map (λ (r : Rename). r.to) items) q).distinct) e
+entry_at_ok : (dep : Text) (rest : List Text) (o p : Option (List Text × List Text))
+    → IfSome (entry_at dep rest o p) IsLawfulEntry
+entry_at_ok dep rest (Some x) p = listed_ok dep (renames_of x.0) x.1
+entry_at_ok dep rest None (Some x) = hiding_ok dep (names_of x.0) x.1
+entry_at_ok dep rest None None = with_ok dep Whole rest tt
 
-listed_ok : (dep : Text) (o : Option (List Rename)) (rest : List Text) (m : Mixin) → listed_with dep o rest ≡ Some m
-    → IsLawfulEntry m
-listed_ok dep None rest m e = absurd (cc)
-listed_ok dep (Some items) rest m e = news_step dep items rest m (news_repeat items) refl e
+entry_ok : (item : List Text) → IfSome (entry_of item) IsLawfulEntry
+entry_ok [] = tt
+entry_ok (dep ∷ rest) =
+    cond_some IsLawfulEntry (is_dependency dep)
+    (entry_at dep rest (bracket_of rest) (word_bracket (codes "hiding") rest)) None
+    (λ q. entry_at_ok dep rest (bracket_of rest) (word_bracket (codes "hiding") rest)) (λ q. tt)
 
-hiding_ok : (dep : Text) (o : Option (List Text)) (rest : List Text) (m : Mixin) → hiding_with dep o rest ≡ Some m
-    → IsLawfulEntry m
-hiding_ok dep None rest m e = absurd (cc)
-hiding_ok dep (Some names) rest m e = with_ok dep (Hiding names) rest m tt e
-
-entry_at_ok : (dep : Text) (rest : List Text) (o p : Option (List Text × List Text)) (m : Mixin)
-    → entry_at dep rest o p ≡ Some m → IsLawfulEntry m
-entry_at_ok dep rest (Some x) p m e = listed_ok dep (renames_of x.0) x.1 m e
-entry_at_ok dep rest None (Some x) m e = hiding_ok dep (names_of x.0) x.1 m e
-entry_at_ok dep rest None None m e = with_ok dep Whole rest m tt e
-
-entry_step : (dep : Text) (rest : List Text) (m : Mixin) (r : Bool)
-    → cond r (entry_at dep rest (bracket_of rest) (word_bracket (codes "hiding") rest)) None ≡ Some m → IsLawfulEntry m
-entry_step dep rest m true e = entry_at_ok dep rest (bracket_of rest) (word_bracket (codes "hiding") rest) m e
-entry_step dep rest m false e = absurd (cc)
-
-pub entry_ok : (item : List Text) (m : Mixin) → entry_of item ≡ Some m → IsLawfulEntry m
-entry_ok [] m e = absurd (cc)
-entry_ok (dep ∷ rest) m e = entry_step dep rest m (is_dependency dep) e
-
-mixed_ok : (o : Option (List Mixin)) → ((ms : List Mixin) → o ≡ Some ms → AllByRecursion IsLawfulEntry ms)
+mixed_ok : (o : Option (List Mixin)) → IfSome o (AllByRecursion IsLawfulEntry)
     → AllByRecursion IsLawfulEntry (mixins_in (option_map (λ ms. v.Mixins ms) o))
-mixed_ok None f = tt
-mixed_ok (Some ms) f = f ms refl
+mixed_ok None h = tt
+mixed_ok (Some ms) h = h
 
 -- the entries of a value of `mixins`
 pub mixins_ok : (value : Text) → AllByRecursion IsLawfulEntry (mixins_in (value_of f.Mixins value))
-mixins_ok value = mixed_ok (mixins_of value) (λ ms e. each_all entry_of IsLawfulEntry entry_ok _ ms e)
+mixins_ok value = mixed_ok (mixins_of value) (each_all entry_of IsLawfulEntry entry_ok _)
 
 -- entries whose dependencies are resolved
 pub resolved_ok : (owner : Text) (own : Text → Bool) (ms : List Mixin) → AllByRecursion IsLawfulEntry ms

@@ -1,20 +1,21 @@
 -- The test whether a component is lawful decides it.
-use Rattle.std.proofs.Common.{◌≡◌, ◌⊎◌, inl, inr, refl, sym, ap, ◌∙◌, subst, ℕ, Bool, true, false, ◌&&◌, ◌||◌, not}
+use Rattle.std.proofs.Common.{◌≡◌, inl, inr, refl, sym, ap, ◌∙◌, subst, Bool, true, false, ◌&&◌, ◌||◌, not}
 use Rattle.std.proofs.Common.{cond, List, [], ◌∷◌, ◌++◌, map, length, arith}
 use Rattle.std.specs.Prelude.{◌↔◌, IsTrue, ◌==◌}
 use Rattle.std.specs.List.{AllByRecursion}
 use Rattle.std.specs.Str.{bytes_eq}
 use Rattle.std.proofs.lemmas.Bool.{and_parts, and_from, not-true, eqb-true}
+use Rattle.bp_base.specs.declared.linking.Rename.{Rename}
 use Rattle.bp_base.specs.Lists.{Among, AreDistinct, is_among}
 use Rattle.bp_base.specs.Texts.{Text}
-use Rattle.bp_base.proofs.SetLemmas.{is_among-there, there-is_among, among-right, distinct-twice}
+use Rattle.bp_base.proofs.SetLemmas.{is_among-there, there-is_among}
 use Rattle.cabal_text.specs.Seen.{repeats_after, repeats}
 use Rattle.cabal_component.specs.declared.component.Component.{Component}
 use Rattle.cabal_component.specs.declared.component.Mixin.{Mixin}
 use Rattle.cabal_component.specs.declared.component.Provides.{Provides}
 use Rattle.cabal_component.specs.declared.component.Provides.TheVariants.{Whole, Listed, Hiding}
 use Rattle.cabal_component.specs.Lawful.{own_names, HasNewsApart, IsLawfulEntry, IsLawful}
-use Rattle.cabal_lawful.specs.Tested.{are_apart, has_news_apart, has_olds_apart, is_lawful_entry, are_lawful_entries}
+use Rattle.cabal_lawful.specs.Tested.{are_apart, has_news_apart, are_lawful_entries}
 use Rattle.cabal_lawful.specs.Tested.{has_form}
 use Rattle.cabal_lawful.proofs.ApartLemmas.{repeats_none, is_at_end}
 
@@ -92,33 +93,27 @@ empty-list : {A : Type 0} (xs : List A) → (length xs == 0) ≡ true → xs ≡
 empty-list [] e = refl
 empty-list (x ∷ xs) e = absurd (let z : length (x ∷ xs) ≡ 0 = eqb-true (length (x ∷ xs)) 0 e in omega (arith, z))
 
-module _ (c : Component) where
-  form-library : has_form c ≡ true → c.executable ≡ false → c.main_is ≡ []
-  form-library e f =
-      empty-list c.main_is
-      (sym (ap (λ b. cond b ((length c.signatures == 0) && ((length c.exposed == 0) && (length c.reexports == 0)))
-      (length c.main_is == 0)) f) ∙ e)
+module _ (main : Text) (signatures exposed : List Text) (reexports : List Rename) where
+  abbrev Formed : Bool → Bool
+  Formed executable = cond executable
+      ((length signatures == 0) && ((length exposed == 0) && (length reexports == 0))) (length main == 0)
 
-  form-executable : has_form c ≡ true → c.executable ≡ true
-      → (c.signatures ≡ []) × (c.exposed ≡ []) × (c.reexports ≡ [])
-  form-executable e t =
-      let all = sym (ap (λ b. cond b ((length c.signatures == 0) &&
-      ((length c.exposed == 0) && (length c.reexports == 0))) (length c.main_is == 0)) t) ∙ e in
-      let p = and_parts _ _ all in
+  abbrev Form : Bool → Type 0
+  Form executable = (executable ≡ false → main ≡ [])
+      × (executable ≡ true → (signatures ≡ []) × (exposed ≡ []) × (reexports ≡ []))
+
+  form-met : (executable : Bool) → Formed executable ≡ true → Form executable
+  form-met false e = (λ f. empty-list main e, λ t. absurd (cc))
+  form-met true e =
+      let p = and_parts _ _ e in
       let q = and_parts _ _ p.1 in
-      (empty-list c.signatures p.0, empty-list c.exposed q.0, empty-list c.reexports q.1)
+      (λ f. absurd (cc), λ t. (empty-list signatures p.0, empty-list exposed q.0, empty-list reexports q.1))
 
-  formed : (b : Bool) → c.executable ≡ b → (c.executable ≡ false → c.main_is ≡ [])
-      → (c.executable ≡ true → (c.signatures ≡ []) × (c.exposed ≡ []) × (c.reexports ≡ [])) → has_form c ≡ true
-  formed true e l x =
-      let h = x e in
-      ap (λ b. cond b ((length c.signatures == 0) && ((length c.exposed == 0) && (length c.reexports == 0)))
-      (length c.main_is == 0)) e
-      ∙ (λ w. (length (h.0 w) == 0) && ((length (h.1 w) == 0) && (length (h.2 w) == 0)))
-  formed false e l x =
-      ap (λ b. cond b ((length c.signatures == 0) && ((length c.exposed == 0) && (length c.reexports == 0)))
-      (length c.main_is == 0)) e
-      ∙ ap (λ z. length z == 0) (l e)
+  met-form : (executable : Bool) → Form executable → Formed executable ≡ true
+  met-form false h = ap (λ z. length z == 0) (h.0 refl)
+  met-form true h =
+      let k = h.1 refl in
+      λ w. (length (k.0 w) == 0) && ((length (k.1 w) == 0) && (length (k.2 w) == 0))
 
 -- the test decides
 pub lawful-tested : (c : Component) (is_dep : Text → Bool) (r : Bool) → ((q : Text) → is_dep q ≡ is_among q c.deps)
@@ -132,12 +127,13 @@ lawful-tested c is_dep r is made = (λ t. met (sym made ∙ t), λ l. made ∙ t
         let p = and_parts _ _ e in
         let q = and_parts _ _ p.1 in
         let s = and_parts _ _ q.1 in
+        let form = form-met c.main_is c.signatures c.exposed c.reexports c.executable s.1 in
         record {
           own = apart-distinct (own_names c) p.0;
           deps = apart-distinct c.deps q.0;
           entries = entries-met is_dep c.deps is c.mixins s.0;
-          library = form-library c s.1;
-          executable = form-executable c s.1;
+          library = form.0;
+          executable = form.1;
         }
 
     tested : IsLawful c → (are_apart (own_names c) &&
@@ -146,4 +142,4 @@ lawful-tested c is_dep r is made = (λ t. met (sym made ∙ t), λ l. made ∙ t
         and_from _ _ (distinct-apart (own_names c) l.own)
         (and_from _ _ (distinct-apart c.deps l.deps)
         (and_from _ _ (met-entries is_dep c.deps is c.mixins l.entries)
-        (formed c c.executable refl l.library l.executable)))
+        (met-form c.main_is c.signatures c.exposed c.reexports c.executable (l.library, l.executable))))

@@ -2,7 +2,7 @@
 use Rattle.std.proofs.Common.{◌≡◌, refl, sym, ap, subst, Bool, true, false, cond, codes, ℕ, List, [], ◌∷◌, ◌++◌, map}
 use Rattle.std.proofs.Common.{Option, Some, None}
 use Rattle.std.specs.List.{AllByRecursion, flat_map}
-use Rattle.bp_base.specs.Lists.{Among, AreDistinct, is_among}
+use Rattle.bp_base.specs.Lists.{Among, AreDistinct}
 use Rattle.bp_base.specs.Texts.{Text}
 use Rattle.bp_base.proofs.SetLemmas.{among-right}
 use Rattle.cabal_text.specs.declared.lines.Line.{Line}
@@ -25,7 +25,7 @@ use Rattle.cabal_component.specs.Reading.{is_own, is_executable, own_mixins, lis
 use Rattle.cabal_component.specs.Reading.{stanza_components, block_components, components_of}
 use Rattle.cabal_component.specs.Lawful.{IsLawful, IsLawfulEntry}
 use Rattle.cabal_lawful.proofs.ApartLemmas.{distinct_keeps, distinct_apart}
-use Rattle.cabal_lawful.proofs.NameLemmas.{listed, names_placed, own_listed, own_distinct, own_among, twice_none}
+use Rattle.cabal_lawful.proofs.NameLemmas.{listed, own_listed, own_distinct, own_among, twice_none}
 use Rattle.cabal_lawful.proofs.GivenLemmas.{value_met, not_read}
 use Rattle.cabal_lawful.proofs.MixedLemmas.{mixins_ok, resolved_ok, entries_ok}
 

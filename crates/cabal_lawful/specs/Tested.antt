@@ -1,11 +1,10 @@
 -- The test whether a component is lawful.
-use Rattle.std.specs.Prelude.{ℕ, Bool, true, false, ◌&&◌, not, List, [], ◌∷◌, length, map, ◌==◌, if◌then◌else◌}
+use Rattle.std.specs.Prelude.{ℕ, Bool, true, ◌&&◌, not, List, [], ◌∷◌, length, map, ◌==◌, if◌then◌else◌}
 use Rattle.cabal_text.specs.Seen.{repeats}
 use Rattle.cabal_component.specs.declared.component.Component.{Component}
 use Rattle.cabal_component.specs.declared.component.Mixin.{Mixin}
 use Rattle.cabal_component.specs.declared.component.Provides.{Provides}
 use Rattle.cabal_component.specs.declared.component.Provides.TheVariants.{Whole, Listed, Hiding}
-use Rattle.cabal_component.specs.Lawful.{own_names}
 
 -- no name stands twice
 abbrev pub are_apart : List (List ℕ) → Bool
