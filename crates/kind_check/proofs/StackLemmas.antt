@@ -1,11 +1,10 @@
 -- Kinds on a stack, as nodes of types spell them.
-use Rattle.std.proofs.Common.{◌≡◌, ℕ, zero, suc, ◌+◌, List, [], ◌∷◌, ◌++◌, length, drop, refl, sym, ap, ap₂, subst, ◌∙◌, arith}
-use Rattle.std.specs.Prelude.{map, reverse}
+use Rattle.std.proofs.Common.{◌≡◌, ℕ, zero, suc, ◌+◌, List, [], ◌∷◌, ◌++◌, length, drop, refl, sym, ap, ap₂}
+use Rattle.std.proofs.Common.{◌∙◌, arith}
+use Rattle.std.specs.Prelude.{map}
 use Rattle.std.proofs.lemmas.List.{reverse-append}
 use Rattle.bp_base.specs.declared.ty.Kind.{Kind}
-use Rattle.bp_base.specs.declared.ty.Kind.TheVariants.{Arrow, Star}
 use Rattle.hs_core.specs.Types.{KindTerm, star, arrow, kind_term}
-use Rattle.type_terms.specs.Terms.{var, con, app}
 use Rattle.type_unify.specs.Types.{Plain}
 use Rattle.type_unify.specs.Written.{read, read_node, joined, joined_back as joined_types_back, AreNodesOf}
 use Rattle.type_unify.specs.declared.term.Node.{Node}

@@ -1,22 +1,23 @@
 -- The kind of a written type alone, its variables, and its synonyms.
-use Rattle.std.proofs.Common.{◌≡◌, ℕ, zero, suc, ◌+◌, ◌<◌, ◌≤◌, Bool, true, false, List, [], ◌∷◌, length, inl, inr, refl, sym}
+use Rattle.std.proofs.Common.{◌≡◌, ℕ, suc, ◌+◌, ◌≤◌, Bool, true, false, List, [], ◌∷◌, inl, inr}
+use Rattle.std.proofs.Common.{refl, sym}
 use Rattle.std.proofs.Common.{ap, subst, ◌∙◌, arith, true≢false}
 use Rattle.std.proofs.lemmas.Bool.{leb-true, le-leb, and_parts, and_from}
 use Rattle.std.specs.Prelude.{◌↔◌, IsTrue, Option, Some, None, ◌&&◌, nat_le}
 use Rattle.bp_base.specs.Texts.{Text}
 use Rattle.bp_base.specs.declared.ty.OrigName.{OrigName}
-use Rattle.type_terms.specs.Terms.{var, con, app}
+use Rattle.type_terms.specs.Terms.{var, app}
 use Rattle.hs_core.specs.declared.tree.Written.{Written}
-use Rattle.hs_core.specs.declared.tree.Written.TheVariants.{WVar, WCon, WApp}
+use Rattle.hs_core.specs.declared.tree.Written.TheVariants.{WApp}
 use Rattle.hs_core.specs.declared.tree.Written.TheBlock.{hidden-the_row-Written-0}
 use denote.Hole.Carrier.{hidden}
-use Rattle.hs_core.specs.Types.{KindTerm, TypeTerm, count, written_term, variables, variables_after, kind_term}
-use Rattle.hs_core.specs.Kinds.{NameKinds, HasKind, kind_at, IsKindOf}
+use Rattle.hs_core.specs.Types.{KindTerm, count, written_term, variables, variables_after}
+use Rattle.hs_core.specs.Kinds.{IsKindOf}
 use Rattle.hs_core.specs.Expansion.{Synonym, Synonyms, IsFullyApplied}
 use Rattle.type_unify.specs.Types.{Plain, Bound}
-use Rattle.kind_check.specs.Forms.{Guess, value, settled}
+use Rattle.kind_check.specs.Forms.{Guess, settled}
 use Rattle.kind_check.specs.Scopes.{known_names, names_under, variables_under, guessed}
-use Rattle.kind_check.specs.Walks.{Demand, Imposes, NoGuess, fits, fits_under}
+use Rattle.kind_check.specs.Walks.{Demand, Imposes, NoGuess, fits_under}
 use Rattle.kind_check.specs.Answers.{HasKindAlone, HasNoKind, known_synonyms, sense_synonym, HasParams, IsFull}
 use Rattle.kind_check.specs.declared.scope.Known.{Known}
 use Rattle.kind_check.specs.declared.scope.GroupDecl.{GroupDecl}
@@ -123,7 +124,8 @@ met_both old mid new w f a g b e p q x y =
 
 -- ---- synonyms
 
-pub written_apply : (ps : List Text) (f a : Written) → written_term ps (WApp f a) ≡ app (written_term ps f) (written_term ps a)
+pub written_apply : (ps : List Text) (f a : Written)
+    → written_term ps (WApp f a) ≡ app (written_term ps f) (written_term ps a)
 unfolding hidden-the_row-Written-0 hidden
 written_apply ps f a = refl
 

@@ -1,8 +1,7 @@
 -- What refusals of kinds say.
 use Rattle.std.specs.Prelude.{◌≡◌, ℕ, List, [], ◌∷◌, Option, Some, None, if◌then◌else◌}
 use Rattle.bp_base.specs.Texts.{Text}
-use Rattle.bp_base.specs.declared.ty.OrigName.{OrigName}
-use Rattle.hs_core.specs.Types.{KindTerm, TypeTerm, count, kind_term, type_term, written_term, variables}
+use Rattle.hs_core.specs.Types.{KindTerm, TypeTerm, count, type_term, written_term, variables}
 use Rattle.hs_core.specs.Kinds.{NameKinds, HasKind, kind_at, AllBelow, Below, IsKindOf}
 use Rattle.hs_core.specs.Expansion.{Synonym, Synonyms, IsFullyApplied}
 use Rattle.hs_core.specs.Sameness.{same_original}

@@ -2,7 +2,8 @@
 use Rattle.std.specs.Prelude.{◌≡◌, ◌↔◌, ℕ, ◌<◌, Bool, true, nat_lt, List}
 use Rattle.type_terms.specs.Terms.{var, con, app}
 use Rattle.hs_core.specs.Types.{KindTerm, star, arrow}
-use Rattle.type_unify.specs.Types.{Head, Plain, rigid, named, Assignment, Bound, Solves, IsTriangular, EveryBound, resolved}
+use Rattle.type_unify.specs.Types.{Head, Plain, rigid, Assignment, Bound, Solves, IsTriangular, EveryBound}
+use Rattle.type_unify.specs.Types.{resolved}
 
 -- a kind for each unknown
 abbrev pub Guess : Type 0

@@ -17,7 +17,8 @@ use Rattle.kind_check.specs.Scopes.{Agree, names_under, variables_under}
 abbrev pub Demand : Type 1
 Demand = Guess → Type 0
 
--- The guesses that meet the new bindings are those that meet the old ones and keep to the demand, but for unknowns from n on.
+-- The guesses that meet the new bindings are those that meet the old ones and keep to the demand, but for unknowns
+-- from n on.
 pub record Imposes (demand : Demand) (old new : List Bound) (n next : ℕ) : Type 0 where
   pub ready : AreReady new next
   pub grows : n ≤ next
@@ -38,7 +39,8 @@ pub record Local (names : Guess → NameKinds) (vars : Guess → ℕ → KindTer
 
 -- the written type fits where the group's names and these parameters have their unknowns
 abbrev pub fits_under : List Known → List GroupDecl → List Text → ℕ → Written → Plain → Demand
-fits_under known ds params first w k = fits (names_under known ds) (variables_under first (count params)) (written_term params w) k
+fits_under known ds params first w k = fits (names_under known ds) (variables_under first (count params))
+    (written_term params w) k
 
 -- the types of fields have kind `*`
 abbrev pub stars : (Guess → NameKinds) → (Guess → ℕ → KindTerm) → List TypeTerm → Demand

@@ -1,4 +1,4 @@
-use Rattle.std.proofs.Common.{◌≡◌, length, ◌∙◌, arith}
+use Rattle.std.proofs.Common.{◌≡◌, length, arith}
 use Rattle.kind_check.proofs.StackLemmas.{all_read, top_kind, no_top}
 use Rattle.kind_check.proofs.answer.kind_of_term.Goals as goal
 

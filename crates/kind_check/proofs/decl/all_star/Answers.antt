@@ -13,19 +13,30 @@ returns-in_err-walk-clause-none c =
     let p = err_from_is_err_and c.from_residual-in_err-walk.result c.from_residual-in_err-walk.ensures.1 in
     let f = field_term c.args.params.now in
     rw (p.1, p.2) (λ z.
-    subst (λ ts. NoGuess (stars (names_under c.args.known.now c.args.decls.now) (variables_under c.args.first (count c.args.params.now)) ts) c.args.bindings.now)
+    subst (λ ts. NoGuess (stars (names_under c.args.known.now c.args.decls.now)
+    (variables_under c.args.first (count c.args.params.now)) ts) c.args.bindings.now)
     (sym (map-at f c.args.types.now c.loop-index.index c.index-types-index.result c.loop-index-test.true))
-    (field_none _ _ (map f (take c.loop-index.index c.args.types.now)) (map f (drop (suc c.loop-index.index) c.args.types.now)) _ _ _ _ _
-    (local c.args.known.now c.args.decls.now c.args.first (count c.args.params.now) c.args.next.now c.requires.group c.requires.params)
+    (field_none _ _ (map f (take c.loop-index.index c.args.types.now))
+    (map f (drop (suc c.loop-index.index) c.args.types.now)) _ _ _ _ _
+    (local c.args.known.now c.args.decls.now c.args.first (count c.args.params.now)
+    c.args.next.now c.requires.group c.requires.params)
     c.loop-index.invariant
-    (subst (λ k. NoGuess (fits_under c.args.known.now c.args.decls.now c.args.params.now c.args.first (get_or c.args.types.now c.loop-index.index c.index-types-index.result).ty k) c.loop-index.bindings) c.in_ok-star.ensures (c.in_err-walk.ensures.none z))))
+    (subst (λ k. NoGuess (fits_under c.args.known.now c.args.decls.now c.args.params.now c.args.first
+    (get_or c.args.types.now c.loop-index.index c.index-types-index.result).ty k) c.loop-index.bindings)
+    c.in_ok-star.ensures (c.in_err-walk.ensures.none z))))
 
 pub loop-index-preserved : goal.loop-index-preserved
 loop-index-preserved c =
     let f = field_term c.args.params.now in
-    subst (λ ts. Imposes (stars (names_under c.args.known.now c.args.decls.now) (variables_under c.args.first (count c.args.params.now)) ts) c.args.bindings.now c.walk.new.bindings c.args.next.now c.walk.new.next)
+    subst (λ ts. Imposes (stars (names_under c.args.known.now c.args.decls.now)
+    (variables_under c.args.first (count c.args.params.now)) ts)
+    c.args.bindings.now c.walk.new.bindings c.args.next.now c.walk.new.next)
     (sym (map-take f c.args.types.now c.loop-index.index c.index-types-index.result c.loop-index-test.true))
     (next_field _ _ (map f (take c.loop-index.index c.args.types.now)) _ _ _ _ _ _ _
-    (local c.args.known.now c.args.decls.now c.args.first (count c.args.params.now) c.args.next.now c.requires.group c.requires.params)
+    (local c.args.known.now c.args.decls.now c.args.first (count c.args.params.now)
+    c.args.next.now c.requires.group c.requires.params)
     c.loop-index.invariant
-    (subst (λ k. Imposes (fits_under c.args.known.now c.args.decls.now c.args.params.now c.args.first (get_or c.args.types.now c.loop-index.index c.index-types-index.result).ty k) c.loop-index.bindings c.walk.new.bindings c.loop-index.next c.walk.new.next) c.in_ok-star.ensures c.in_ok-walk.ensures.ok))
+    (subst (λ k. Imposes (fits_under c.args.known.now c.args.decls.now c.args.params.now c.args.first
+    (get_or c.args.types.now c.loop-index.index c.index-types-index.result).ty k)
+    c.loop-index.bindings c.walk.new.bindings c.loop-index.next c.walk.new.next)
+    c.in_ok-star.ensures c.in_ok-walk.ensures.ok))

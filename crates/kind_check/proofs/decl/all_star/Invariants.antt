@@ -6,4 +6,6 @@ use Rattle.kind_check.specs.Walks.{Imposes, stars}
 use Rattle.kind_check.proofs.decl.all_star.Given as goal
 
 abbrev pub invariant-loop-index : goal.invariant-loop-index
-invariant-loop-index l = Imposes (stars (names_under l.known l.decls) (variables_under l.first (count l.params)) (map (field_term l.params) (take l.index l.types))) l.fn.bindings l.bindings l.fn.next l.next
+invariant-loop-index l = Imposes
+    (stars (names_under l.known l.decls) (variables_under l.first (count l.params))
+    (map (field_term l.params) (take l.index l.types))) l.fn.bindings l.bindings l.fn.next l.next

@@ -8,5 +8,8 @@ use Rattle.kind_check.proofs.scope.+term_of_kind.Goals as goal
 
 pub returns-in_ok-to-in-Arrow : goal.returns-in_ok-to-in-Arrow
 returns-in_ok-to-in-Arrow t c =
-    IfOk-then c.app.result (λ t' e. e ∙ ap₂ app (c.in_ok-from-in-Arrow.ensures ∙ ap (λ k. code (kind_term k)) c.get.ensures) (c.in_ok-to-in-Arrow.ensures ∙ ap (λ k. code (kind_term k)) c.get-in-Arrow.ensures)
-    ∙ sym (ap (λ k. code (kind_term k)) c.in-Arrow.is ∙ ap code (kind_arrow c.in-Arrow.from c.in-Arrow.to))) c.app.ensures
+    IfOk-then c.app.result
+    (λ t' e. e ∙ ap₂ app (c.in_ok-from-in-Arrow.ensures ∙ ap (λ k. code (kind_term k)) c.get.ensures)
+    (c.in_ok-to-in-Arrow.ensures ∙ ap (λ k. code (kind_term k)) c.get-in-Arrow.ensures)
+    ∙ sym (ap (λ k. code (kind_term k)) c.in-Arrow.is ∙ ap code (kind_arrow c.in-Arrow.from c.in-Arrow.to)))
+    c.app.ensures
