@@ -1,0 +1,10 @@
+pub mod FormLemmas
+pub mod WalkLemmas
+pub mod ScopeLemmas
+pub mod ArmLemmas
+pub mod DeclareLemmas
+pub mod FieldLemmas
+pub mod HeadLemmas
+pub mod GroupLemmas
+pub mod StackLemmas
+pub mod WrittenLemmas

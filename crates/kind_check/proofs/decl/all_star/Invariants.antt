@@ -1,0 +1,11 @@
+use Rattle.std.proofs.Common.{take}
+use Rattle.std.specs.Prelude.{map}
+use Rattle.hs_core.specs.Types.{count}
+use Rattle.kind_check.specs.Scopes.{names_under, variables_under, field_term}
+use Rattle.kind_check.specs.Walks.{Imposes, stars}
+use Rattle.kind_check.proofs.decl.all_star.Given as goal
+
+abbrev pub invariant-loop-index : goal.invariant-loop-index
+invariant-loop-index l = Imposes
+    (stars (names_under l.known l.decls) (variables_under l.first (count l.params))
+    (map (field_term l.params) (take l.index l.types))) l.fn.bindings l.bindings l.fn.next l.next

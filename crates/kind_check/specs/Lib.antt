@@ -1,0 +1,5 @@
+pub mod Answers
+pub mod Forms
+pub mod Scopes
+pub mod Stacks
+pub mod Walks
