@@ -24,7 +24,7 @@ use Rattle.haskell_layout.specs.Laws.{none_due, BracesStay}
 use Rattle.haskell_layout.proofs.StandingLemmas.{before_inverts}
 
 -- no implicit block is open
-abbrev IsPlain : List Item → Type 0
+abbrev pub IsPlain : List Item → Type 0
 IsPlain [] = Unit {0}
 IsPlain (i.Block column ∷ outer) = ⊥
 IsPlain (item ∷ outer) = IsPlain outer
@@ -34,7 +34,8 @@ record Still (moved : Moved) : Type 0 where
   made : moved.made ≡ []
   plain : IsPlain moved.stack
 
-plain_item : (item : Item) (outer : List Item) → IsPlain (item ∷ outer) → (end_of item ≡ []) × IsPlain outer
+-- such an item makes nothing where it ends
+pub plain_item : (item : Item) (outer : List Item) → IsPlain (item ∷ outer) → (end_of item ≡ []) × IsPlain outer
 plain_item (i.Block column) outer plain = absurd plain
 plain_item i.Explicit outer plain = (refl, plain)
 plain_item i.Paren outer plain = (refl, plain)
@@ -46,7 +47,8 @@ plain_item i.Let outer plain = (refl, plain)
 plain_item i.Lam outer plain = (refl, plain)
 plain_item i.Guard outer plain = (refl, plain)
 
-plain_implicit : (stack : List Item) → IsPlain stack → is_implicit stack ≡ false
+-- the innermost block is not implicit
+pub plain_implicit : (stack : List Item) → IsPlain stack → is_implicit stack ≡ false
 plain_implicit [] plain = refl
 plain_implicit (i.Block column ∷ outer) plain = absurd plain
 plain_implicit (i.Explicit ∷ outer) plain = refl

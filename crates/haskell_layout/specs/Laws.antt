@@ -60,3 +60,8 @@ Matched depth (token ∷ tokens) = matched_by (role_of token) depth (λ next. Ma
 
 abbrev pub BracesMatch : Type 0
 BracesMatch = (tokens answer : List Token) (length : ℕ) → layout_of tokens length ≡ Ok answer → Matched 0 answer
+
+-- Tokens whose every block has braces that match are their own layout: it has an answer, which is these tokens.
+abbrev pub BracesLayOut : Type 0
+BracesLayOut = (tokens : List Token) (length : ℕ) → none_due (due_at_start tokens) tokens ≡ true → Matched 0 tokens
+    → layout_of tokens length ≡ Ok tokens

@@ -1,5 +1,5 @@
 //! What holds of every layout.
-ghost use Rattle.haskell_layout.specs.Laws.{GivenStand, BracesStay, BracesMatch};
+ghost use Rattle.haskell_layout.specs.Laws.{GivenStand, BracesStay, BracesMatch, BracesLayOut};
 
 /// The tokens of the source stand in its layout in their order. What layout makes is one of `{`, `}` and `;`, in column 0 and
 /// not first on its line, at the offset of the token of the source that follows, or at the end of the source.
@@ -15,4 +15,9 @@ pub fn braces_stay()
 /// The braces of a layout match.
 pub fn braces_match()
     ensures { BracesMatch }
+{}
+
+/// Tokens whose every block has braces that match are their own layout.
+pub fn braces_lay_out()
+    ensures { BracesLayOut }
 {}

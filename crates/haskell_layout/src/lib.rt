@@ -9,5 +9,5 @@ mod role;
 mod stack;
 
 pub use error::LayoutError;
-pub use laws::{braces_match, braces_stay, given_tokens_stand};
+pub use laws::{braces_lay_out, braces_match, braces_stay, given_tokens_stand};
 pub use pass::layout;

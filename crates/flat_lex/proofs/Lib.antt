@@ -1,0 +1,4 @@
+pub mod StartLemmas
+pub mod PieceLemmas
+pub mod LiteralLemmas
+pub mod LexemeLemmas

@@ -1,0 +1,11 @@
+pub mod Marks
+pub mod Names
+pub mod Texts
+pub mod TypeMarks
+pub mod TypeTexts
+pub mod PatternMarks
+pub mod PatternTexts
+pub mod ExpressionMarks
+pub mod ExpressionTexts
+pub mod ModuleMarks
+pub mod ModuleTexts
