@@ -1,0 +1,4 @@
+pub mod TreesLemmas
+pub mod ListedLemmas
+pub mod StarterLemmas
+pub mod OperandLayerLemmas
