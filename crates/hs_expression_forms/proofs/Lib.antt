@@ -2,3 +2,5 @@ pub mod TreesLemmas
 pub mod ListedLemmas
 pub mod StarterLemmas
 pub mod OperandLayerLemmas
+pub mod AExpLayerLemmas
+pub mod OperandLemmas
