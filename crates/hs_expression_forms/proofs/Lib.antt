@@ -4,3 +4,4 @@ pub mod StarterLemmas
 pub mod OperandLayerLemmas
 pub mod AExpLayerLemmas
 pub mod OperandLemmas
+pub mod PieceLemmas
