@@ -5,3 +5,4 @@ pub mod OperandLayerLemmas
 pub mod AExpLayerLemmas
 pub mod OperandLemmas
 pub mod PieceLemmas
+pub mod LinkLayerLemmas
