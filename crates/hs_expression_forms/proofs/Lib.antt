@@ -6,3 +6,4 @@ pub mod AExpLayerLemmas
 pub mod OperandLemmas
 pub mod PieceLemmas
 pub mod LinkLayerLemmas
+pub mod LinkLemmas
