@@ -7,3 +7,5 @@ pub mod OperandLemmas
 pub mod PieceLemmas
 pub mod LinkLayerLemmas
 pub mod LinkLemmas
+pub mod QOpLemmas
+pub mod LinkStepLemmas

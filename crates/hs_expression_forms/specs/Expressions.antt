@@ -222,3 +222,7 @@ ifs = behind_token (t.Word w.If) (row (ended exps (t.Word w.Then)) (row (ended e
 -- `"case" exp "of" block(alt)`
 abbrev pub cases : Trees Terminal (ExpTree × AltBlock)
 cases = behind_token (t.Word w.Case) (row (ended exps (t.Word w.Of)) alt_blocks)
+
+-- operators
+abbrev pub qops : Trees Terminal QOpTree
+qops = record { tokens = qop_tokens; formed = λ op. true; deep = λ op. 0; extends = λ op k. false }
