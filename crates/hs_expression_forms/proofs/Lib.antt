@@ -9,3 +9,4 @@ pub mod LinkLayerLemmas
 pub mod LinkLemmas
 pub mod QOpLemmas
 pub mod LinkStepLemmas
+pub mod LinkReturnLemmas

@@ -112,7 +112,7 @@ some_same x y e = cc
 abbrev rebuilt : SignedOperand × (List OpOperand × Option QOpTree) → Links
 rebuilt p = (make_infix p.0 p.1.0, p.1.1)
 
-links_same : (l l' : Links) → links_head l ≡ links_head l' → links_pieces l ≡ links_pieces l' → l ≡ l'
+pub links_same : (l l' : Links) → links_head l ≡ links_head l' → links_pieces l ≡ links_pieces l' → l ≡ l'
 links_same l l' h ps =
     let o = out-InfixTree l.0 in
     let o' = out-InfixTree l'.0 in

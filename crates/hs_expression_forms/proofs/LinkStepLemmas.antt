@@ -41,21 +41,22 @@ use Rattle.hs_expression_forms.proofs.OperandLemmas.{operand_starts}
 use Rattle.hs_expression_forms.proofs.QOpLemmas.{qop_unique}
 
 -- What goes on behind an operator.
-pub data Behind (limit : Option ℕ) (other : Links) (ops beyond : ℕ) (s after : Ts) : Type 0 where
-  lone_at : (op : QOpTree) → other.1 ≡ Some op → s ≡ after → Behind limit other ops beyond s after
+pub data Behind (limit : Option ℕ) (other : Links) (op : QOpTree) (more : List Piece) (ops beyond : ℕ)
+    (s after : Ts) : Type 0 where
+  lone_at : other.1 ≡ Some op → more ≡ (op, None) ∷ [] → s ≡ after → Behind limit other op more ops beyond s after
   plain_at : (e : OperandTree) (tail : Ts) → s ≡ spelling_operand e ++ tail →
       (within operands (lowered limit (ops + 1))).Good e → begins (operands.extends e) tail ≡ false → 1 ≤ beyond →
-      Behind limit other ops beyond s after
+      Behind limit other op more ops beyond s after
   signed_at : (e : OperandTree) (tail : Ts) → s ≡ t.VarSym minus ∷ (spelling_operand e ++ tail) →
       (within operands (lowered limit (ops + 2))).Good e → begins (operands.extends e) tail ≡ false → 2 ≤ beyond →
-      Behind limit other ops beyond s after
+      Behind limit other op more ops beyond s after
 
-infix_takes_qop : (lone : Bool) (other : Links) (k : Terminal) → other.1 ≡ None →
+pub infix_takes_qop : (lone : Bool) (other : Links) (k : Terminal) → other.1 ≡ None →
     (links lone).extends other k ≡ false → starts_qop k ≡ false
 infix_takes_qop lone (x, None) k e h = or_left (starts_qop k) _ (or_right (starts_aexp k) _ h)
 infix_takes_qop lone (x, Some op) k e h = or_right (starts_operand k) _ h
 
-begins_none : (g h : Terminal → Bool) (ts : Ts) → ((k : Terminal) → g k ≡ false → h k ≡ false) → begins g ts ≡ false →
+pub begins_none : (g h : Terminal → Bool) (ts : Ts) → ((k : Terminal) → g k ≡ false → h k ≡ false) → begins g ts ≡ false →
     begins h ts ≡ true → ⊥
 begins_none g h ts w q e = true≢false (sym e ∙ begins_within g h ts w q)
 
@@ -64,7 +65,7 @@ module _ (lone : Bool) (limit : Option ℕ) where
   pub behind : (x : InfixTree) (deep ops : ℕ) (op : QOpTree) (other : Links) (s after : Ts) →
       length (first_pieces (out-InfixTree x).first (out-InfixTree x).rest) ≡ ops →
       (within (links lone) limit).Good other → begins ((links lone).extends other) after ≡ false →
-      (m : Meeting limit x deep ops other (qop_tokens op ++ s) after) → Behind limit other ops m.beyond s after
+      (m : Meeting limit x deep ops other (qop_tokens op ++ s) after) → Behind limit other op m.more ops m.beyond s after
   behind x deep ops op other s after long good quiet m = go m.more m.beyond m.pieces m.spelled m.next
     where
       ps : List Piece
@@ -101,13 +102,14 @@ module _ (lone : Bool) (limit : Option ℕ) where
 
       go : (more : List Piece) (beyond : ℕ) → links_pieces other ≡ ps ++ more →
           qop_tokens op ++ s ≡ flat_map piece_tokens more ++ after → Next other more beyond →
-          Behind limit other ops beyond s after
+          Behind limit other op more ops beyond s after
       go more beyond at e (ends is none) =
           absurd (begins_none ((links lone).extends other) starts_qop after (λ k h. infix_takes_qop lone other k none h) quiet
           (ap (begins starts_qop) (sym (e ∙ ap (λ l. flat_map piece_tokens l ++ after) is))
           ∙ begins_append starts_qop (qop_tokens op) s (qop_starts op)))
       go more beyond at e (alone op' is o) =
-          lone_at op' o (sym (split op' None [] (e ∙ ap (λ l. flat_map piece_tokens l ++ after) is)).1)
+          let cut = split op' None [] (e ∙ ap (λ l. flat_map piece_tokens l ++ after) is) in
+          lone_at (o ∙ ap Some cut.0) (is ∙ ap (λ p. (p, None) ∷ []) cut.0) (sym cut.1)
       go more beyond at e (plain op' x' rest is le) =
           let cut = split op' (Some x') rest (e ∙ ap (λ l. flat_map piece_tokens l ++ after) is) in
           let found = item ps op' x' rest ops long (at ∙ ap (λ l. ps ++ l) is) in
