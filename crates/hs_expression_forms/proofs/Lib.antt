@@ -10,3 +10,5 @@ pub mod LinkLemmas
 pub mod QOpLemmas
 pub mod LinkStepLemmas
 pub mod LinkReturnLemmas
+pub mod LinkAnswerLemmas
+pub mod LinkFirstLemmas

@@ -103,26 +103,26 @@ abbrev pub SignedFails : Option ℕ → ℕ → ℕ → Ts → Fault → Type 0
 SignedFails limit deep used ts (f.At left) = SignedRejects limit deep used ts left
 SignedFails limit deep used ts f.NoMemory = Unit {0}
 
-minus_qop : (k : Terminal) → is_minus k ≡ true → starts_qop k ≡ true
+pub minus_qop : (k : Terminal) → is_minus k ≡ true → starts_qop k ≡ true
 minus_qop (t.VarSym n) h = refl
 minus_qop _ h = absurd (true≢false (sym h))
 
-minus_operand : (k : Terminal) → is_minus k ≡ true → starts_operand k ≡ false
+pub minus_operand : (k : Terminal) → is_minus k ≡ true → starts_operand k ≡ false
 minus_operand k h = qop_operand k (minus_qop k h)
 
 -- what begins an expression goes on behind an operator
-exp_goes : (k : Terminal) → starts_operand k || starts_qop k ≡ false → starts_exp k ≡ false
+pub exp_goes : (k : Terminal) → starts_operand k || starts_qop k ≡ false → starts_exp k ≡ false
 exp_goes k e = both (is_minus k) refl
   where
     both : (b : Bool) → is_minus k ≡ b → starts_operand k || is_minus k ≡ false
     both true h = absurd (true≢false (sym (minus_qop k h) ∙ or_right (starts_operand k) _ e))
     both false h = ap (λ c. starts_operand k || c) h ∙ ap (λ c. c || false) (or_left (starts_operand k) _ e)
 
-no_lone : (limit : Option ℕ) (other : Links) (op : QOpTree) → other.1 ≡ Some op → (within (links false) limit).Good other → ⊥
+pub no_lone : (limit : Option ℕ) (other : Links) (op : QOpTree) → other.1 ≡ Some op → (within (links false) limit).Good other → ⊥
 no_lone limit (x, None) op e good = cc
 no_lone limit (x, Some o) op e good = true≢false (sym good.0)
 
-alone_quiet : (lone : Bool) (other : Links) (op : QOpTree) (k : Terminal) → other.1 ≡ Some op →
+pub alone_quiet : (lone : Bool) (other : Links) (op : QOpTree) (k : Terminal) → other.1 ≡ Some op →
     (links lone).extends other k ≡ false → starts_exp k ≡ false
 alone_quiet lone (x, None) op k e h = absurd (none op e)
   where
@@ -130,7 +130,7 @@ alone_quiet lone (x, None) op k e h = absurd (none op e)
     none op e = cc
 alone_quiet lone (x, Some o) op k e h = exp_goes k h
 
-operand_not_minus : (e : OperandTree) (tail s : Ts) → s ≡ spelling_operand e ++ tail → begins is_minus s ≡ true → ⊥
+pub operand_not_minus : (e : OperandTree) (tail s : Ts) → s ≡ spelling_operand e ++ tail → begins is_minus s ≡ true → ⊥
 operand_not_minus e tail s at h =
     begins_none' (spelling_operand e ++ tail) (begins_append starts_operand (spelling_operand e) tail (operand_starts e))
     (ap (begins is_minus) (sym at) ∙ h)
@@ -139,7 +139,7 @@ operand_not_minus e tail s at h =
     begins_none' [] a b = true≢false (sym a)
     begins_none' (k ∷ l) a b = true≢false (sym a ∙ minus_operand k b)
 
-operand_exp : (e : OperandTree) (tail s : Ts) → s ≡ spelling_operand e ++ tail → begins starts_exp s ≡ true
+pub operand_exp : (e : OperandTree) (tail s : Ts) → s ≡ spelling_operand e ++ tail → begins starts_exp s ≡ true
 operand_exp e tail s at =
     ap (begins starts_exp) at
     ∙ lift (spelling_operand e ++ tail) (begins_append starts_operand (spelling_operand e) tail (operand_starts e))
@@ -153,25 +153,22 @@ sign_one limit a n m e h = subst (λ k. Within limit (a + k)) e h
 
 module _ (limit : Option ℕ) (ts : Ts) (x : InfixTree) (here : Ts) (deep ops : ℕ)
     (st : LinkState limit ts x here deep ops) where
-  ps : List Piece
-  ps = chain_pieces x
-
-  front_is : maybe_tokens (links_head (x, None)) ++ flat_map piece_tokens (chain_pieces x) ≡ spelling_infix x
+  pub front_is : maybe_tokens (links_head (x, None)) ++ flat_map piece_tokens (chain_pieces x) ≡ spelling_infix x
   front_is =
       ap (λ l. maybe_tokens (links_head (x, None)) ++ flat_map piece_tokens l) (sym (append-nil (chain_pieces x)))
       ∙ links_spelled (x, None) ∙ append-nil (spelling_infix x)
 
-  split_is : ts ≡ spelling_infix x ++ here
+  pub split_is : ts ≡ spelling_infix x ++ here
   split_is = st.state.split ∙ ap (λ l. l ++ here) front_is
 
-  depth_is : depth_of_infix x ≡ deep + ops
+  pub depth_is : depth_of_infix x ≡ deep + ops
   depth_is = omega (arith, infix_deep x, st.state.deep_is, st.ops_is)
 
-  none_good : (lone : Bool) → (within (links lone) limit).Good (x, None)
+  pub none_good : (lone : Bool) → (within (links lone) limit).Good (x, None)
   none_good lone = (st.good, subst (Within limit) (sym depth_is) st.room)
 
   -- a chain that has one more operand
-  add_good : (op : QOpTree) (b : Bool) (e : OperandTree) → (facts_of_infix x).is_open ≡ false →
+  pub add_good : (op : QOpTree) (b : Bool) (e : OperandTree) → (facts_of_infix x).is_open ≡ false →
       (within operands (lowered limit ((ops + 1) + sign b))).Good e → Within limit (deep + ((ops + 1) + sign b)) →
       (lone : Bool) → (within (links lone) limit).Good (add x op b e, None)
   add_good op b e shut good room lone = (infix_formed (add x op b e)

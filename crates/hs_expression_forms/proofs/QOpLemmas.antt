@@ -75,7 +75,7 @@ qop_reads limit op rest = record {
     lowest None = tt
     lowest (Some n) = omega arith
 
-qop_long : (op : QOpTree) → 0 < length (qop_tokens op)
+pub qop_long : (op : QOpTree) → 0 < length (qop_tokens op)
 qop_long (q.Sym n) = omega arith
 qop_long (q.Quoted n) = omega arith
 qop_long (q.QualifiedSym n) = omega arith
