@@ -12,3 +12,4 @@ pub mod LinkStepLemmas
 pub mod LinkReturnLemmas
 pub mod LinkAnswerLemmas
 pub mod LinkFirstLemmas
+pub mod FrontLemmas

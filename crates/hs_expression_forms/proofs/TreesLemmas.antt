@@ -15,7 +15,7 @@ use Rattle.hs_forms.proofs.FormLemmas.{begins_same, same_start_append}
 use Rattle.hs_forms.proofs.StateLemmas.{fails_after}
 use Rattle.hs_forms.proofs.LimitLemmas.{within_less, within_lowered, within_raised, within_max, within_zero, and_left}
 use Rattle.hs_forms.proofs.LimitLemmas.{and_right}
-use Rattle.hs_expression_forms.specs.Trees.{Trees, within, Took, Failed, behind_token, ended, row, Follows, Makes}
+use Rattle.hs_expression_forms.specs.Trees.{Trees, within, Took, Failed, behind_token, ended, row, Follows, Makes, Embeds}
 
 -- forms with the same tokens and continuations whose trees are the same
 pub reads_same : {K T : Type 0} (one two : Form K T) → ((x : T) → two.tokens x ≡ one.tokens x) →
@@ -238,3 +238,42 @@ module _ {K P T : Type 0} (whole : Trees K T) (k : K) (part : Trees K P) (make :
   behind_made_failed ts next e stays at r =
       made_failed whole (behind_token k part) make used test w limit room ts e stays
       (behind_failed part (lowered limit used) k ts next e at r)
+
+-- trees of one kind, read among those of another
+module _ {K A B : Type 0} (small : Trees K A) (big : Trees K B) (into : A → B) (m : Embeds small big into)
+    (limit : Option ℕ) where
+  there_embeds : (x : A) → (within small limit).Good x → (within big limit).Good (into x)
+  there_embeds x g = (m.formed x ∙ g.0, subst (Within limit) (sym (m.deep x)) g.1)
+
+  back_embeds : (x : A) → (within big limit).Good (into x) → (within small limit).Good x
+  back_embeds x g = (sym (m.formed x) ∙ g.0, subst (Within limit) (m.deep x) g.1)
+
+  pub embeds_took : (ts : List K) (x : A) (rest : List K) (n : ℕ) → Took big limit ts (into x) rest n →
+      Took small limit ts x rest n
+  embeds_took ts x rest n acc = record {
+    spelled = acc.spelled ∙ ap (λ l. l ++ rest) (m.tokens x);
+    reads = record {
+      good = back_embeds x acc.reads.good;
+      only = λ s other after same good quiet e.
+          let found = acc.reads.only s (into other) after same (there_embeds other good)
+              (begins_within (small.extends other) (big.extends (into other)) after (m.extends other) quiet)
+              (ap (λ l. l ++ s) (m.tokens x) ∙ e ∙ ap (λ l. l ++ after) (sym (m.tokens other))) in
+          (m.one other x found.0, found.1);
+    };
+    measured_is = acc.measured_is ∙ m.deep x;
+    room = acc.room;
+  }
+
+  pub embeds_failed : ((y : B) → big.formed y ≡ true → (x : A) × (y ≡ into x)) → (ts : List K) (e : Fault) →
+      Failed big limit ts e → Failed small limit ts e
+  embeds_failed back ts e r =
+      fails_after (within small limit) (within big limit) [] ts ts e refl
+      (λ before bad split q. record {
+        begun = (let x = back q.begun.1 q.begun.2.0 in
+            (q.begun.0, x.0, back_embeds x.0 (subst (within big limit).Good x.1 q.begun.2),
+            q.begun.3 ∙ ap big.tokens x.1 ∙ m.tokens x.0));
+        never = λ s other after same good quiet e.
+            q.never s (into other) after same (there_embeds other good)
+            (begins_within (small.extends other) (big.extends (into other)) after (m.extends other) quiet)
+            (e ∙ ap (λ l. l ++ after) (sym (m.tokens other)));
+      }) r

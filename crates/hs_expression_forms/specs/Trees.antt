@@ -65,3 +65,11 @@ pub record Makes {K P T : Type 0} (whole : Trees K T) (part : Trees K P) (make :
   pub starts : (p : P) (after : List K) → test (part.tokens p ++ after) ≡ true
   pub only : (x : T) (after : List K) → whole.formed x ≡ true → test (whole.tokens x ++ after) ≡ true →
       (p : P) × (x ≡ make p)
+
+-- Trees of one kind among those of another: with the same tokens, and as well formed and as deep.
+pub record Embeds {K A B : Type 0} (small : Trees K A) (big : Trees K B) (into : A → B) : Type 0 where
+  pub tokens : (x : A) → big.tokens (into x) ≡ small.tokens x
+  pub formed : (x : A) → big.formed (into x) ≡ small.formed x
+  pub deep : (x : A) → big.deep (into x) ≡ small.deep x
+  pub extends : (x : A) (k : K) → small.extends x k ≡ false → big.extends (into x) k ≡ false
+  pub one : (x y : A) → into x ≡ into y → x ≡ y
