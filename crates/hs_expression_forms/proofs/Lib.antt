@@ -13,3 +13,4 @@ pub mod LinkReturnLemmas
 pub mod LinkAnswerLemmas
 pub mod LinkFirstLemmas
 pub mod FrontLemmas
+pub mod BunchLemmas
