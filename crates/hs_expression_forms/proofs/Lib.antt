@@ -14,3 +14,4 @@ pub mod LinkAnswerLemmas
 pub mod LinkFirstLemmas
 pub mod FrontLemmas
 pub mod BunchLemmas
+pub mod AExpLemmas

@@ -47,7 +47,7 @@ negated_of s = (out-SignedOperand s).negated
 abbrev pub operand_of : SignedOperand → OperandTree
 operand_of s = (out-SignedOperand s).operand
 
-signed_spelled : (s : SignedOperand) →
+pub signed_spelled : (s : SignedOperand) →
     spelling_signed s ≡ sign_tokens (negated_of s) ++ spelling_operand (operand_of s)
 unfolding token_algebra
 signed_spelled s = ap spelling_signed (sym (roll-out-SignedOperand s)) ∙ signed_folded token_algebra (out-SignedOperand s)
@@ -57,7 +57,7 @@ link_spelled : (x : OpOperand) →
 unfolding token_algebra
 link_spelled x = ap spelling_link (sym (roll-out-OpOperand x)) ∙ link_folded token_algebra (out-OpOperand x)
 
-infix_spelled : (x : InfixTree) →
+pub infix_spelled : (x : InfixTree) →
     spelling_infix x ≡ spelling_signed (out-InfixTree x).first ++ flat_map spelling_link (out-InfixTree x).rest
 unfolding token_algebra
 infix_spelled x =

@@ -159,7 +159,7 @@ lambda_makes = record {
   formed = λ p. ap good_of (lambda_facts p);
   deep = lambda_deep;
   extends = λ p k e. ap (λ f. operand_goes_on f k) (sym (lambda_facts p)) ∙ e;
-  starts = λ p after. refl;
+  starts = λ p after good. refl;
   only = λ x after good e. operand_only 1 x after e;
 }
 
@@ -169,7 +169,7 @@ let_makes = record {
   formed = λ p. ap good_of (let_facts p);
   deep = let_deep;
   extends = λ p k e. ap (λ f. operand_goes_on f k) (sym (let_facts p)) ∙ e;
-  starts = λ p after. refl;
+  starts = λ p after good. refl;
   only = λ x after good e. operand_only 2 x after e;
 }
 
@@ -179,7 +179,7 @@ if_makes = record {
   formed = if_formed;
   deep = if_deep;
   extends = λ p k e. ap (λ f. operand_goes_on f k) (sym (if_facts p)) ∙ e;
-  starts = λ p after. refl;
+  starts = λ p after good. refl;
   only = λ x after good e. operand_only 3 x after e;
 }
 
@@ -189,7 +189,7 @@ case_makes = record {
   formed = λ p. ap good_of (case_facts p);
   deep = case_deep;
   extends = λ p k e. refl;
-  starts = λ p after. refl;
+  starts = λ p after good. refl;
   only = λ x after good e. operand_only 4 x after e;
 }
 
@@ -206,7 +206,7 @@ apply_makes = record {
   formed = λ p. ap good_of (apply_facts p);
   deep = λ p. (let e = apply_deep p in omega (arith, e));
   extends = λ p k e. or_none (starts_aexp k) (or_left (starts_aexp k) _ e);
-  starts = λ p after. apply_test (applies.tokens p ++ after)
+  starts = λ p after good. apply_test (applies.tokens p ++ after)
       (begins_append starts_aexp (applies.tokens p) after (begins_append starts_aexp (spelling_aexp p.0) _
       (aexp_starts p.0)));
   only = λ x after good e. operand_only 5 x after e;

@@ -172,7 +172,7 @@ module _ {K P T : Type 0} (whole : Trees K T) (part : Trees K P) (make : P → T
     good = good room p r.good;
     only = λ s other after same g quiet e.
         let e' : part.tokens p ++ s ≡ whole.tokens other ++ after = ap (λ l. l ++ s) (sym (w.spelled p)) ∙ e in
-        let q = w.only other after g.0 (ap test (sym e') ∙ w.starts p s) in
+        let q = w.only other after g.0 (ap test (sym e') ∙ w.starts p s r.good.0) in
         let found = r.only s q.0 after same (good_back other q.0 q.1 g) (quiet_part other q.0 after q.1 quiet)
         (e' ∙ ap (λ o. whole.tokens o ++ after) q.1 ∙ ap (λ l. l ++ after) (w.spelled q.0)) in
         (q.1 ∙ ap make found.0, found.1);

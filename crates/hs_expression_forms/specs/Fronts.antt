@@ -1,21 +1,22 @@
 -- What stands first between round brackets: an expression, or the chain and the operator of a left section (Haskell 2010
 -- Report, section 3.5).
 use Rattle.std.specs.Prelude.{◌≡◌, ℕ, max, Bool, true, false, not, ◌&&◌, ◌||◌, List, [], ◌∷◌, ◌++◌, length, flat_map, map}
-use Rattle.std.specs.Prelude.{Option, Some, None, ◌⊎◌}
+use Rattle.std.specs.Prelude.{Option, Some, None, ◌⊎◌, replicate, nat_lt}
 use Rattle.std.proofs.Common.{inl, inr}
 use Rattle.hs_forms.specs.Limits.{deepest, all_of}
 use Rattle.hs_tokens.specs.Terminals.{is_comma}
 use Rattle.hs_tokens.specs.declared.terminal.Terminal.{Terminal}
 use Rattle.hs_tokens.specs.declared.terminal.Terminal.TheVariants as t
 use Rattle.hs_trees.specs.Patterns.{Ts}
-use Rattle.hs_modules.specs.Words.{qop_tokens}
+use Rattle.hs_modules.specs.Words.{qop_tokens, is_bare_minus}
 use Rattle.hs_modules.specs.Tokens.{spelling_exp, spelling_infix}
 use Rattle.hs_modules.specs.Formed.{facts_of_exp, facts_of_infix}
 use Rattle.hs_modules.specs.declared.names.QOpTree.{QOpTree}
 use Rattle.hs_modules.specs.declared.expressions.ExpTree.{ExpTree}
 use Rattle.hs_modules.specs.declared.expressions.InfixTree.{InfixTree}
-use Rattle.hs_expression_forms.specs.Trees.{Trees}
+use Rattle.hs_expression_forms.specs.Trees.{Trees, ended, row}
 use Rattle.hs_expression_forms.specs.Expressions.{is_exp, depth_of_exp, is_infix, depth_of_infix, exp_goes_on, few, exps}
+use Rattle.hs_expression_forms.specs.Expressions.{infixes}
 use Rattle.hs_expression_forms.specs.Expressions.{starts_operand, starts_qop, last_part}
 
 -- an expression, or a chain and an operator
@@ -66,4 +67,47 @@ bunches = record {
       && (front_formed true p.0 && all_of (map is_exp p.1));
   deep = λ p. max (front_deep p.0) (deepest (map depth_of_exp p.1));
   extends = λ p k. is_comma k || bunch_goes_on p k;
+}
+
+-- what a bunch is: expressions, or a left section
+abbrev pub Inside : Type 0
+Inside = (ExpTree × List ExpTree) ⊎ (InfixTree × QOpTree)
+
+abbrev pub bunch_of : Inside → Bunch
+bunch_of (inl p) = (inl p.0, p.1)
+bunch_of (inr p) = (inr p, [])
+
+-- what stands between round brackets, with the closing one
+abbrev pub insides : Trees Terminal Inside
+insides = record {
+  tokens = λ i. bunches.tokens (bunch_of i) ++ t.RightParen ∷ [];
+  formed = λ i. bunches.formed (bunch_of i);
+  deep = λ i. bunches.deep (bunch_of i);
+  extends = λ i k. false;
+}
+
+-- the operators of right sections
+abbrev pub section_ops : Trees Terminal QOpTree
+section_ops = record {
+  tokens = qop_tokens;
+  formed = λ op. not (is_bare_minus op);
+  deep = λ op. 0;
+  extends = λ op k. false;
+}
+
+-- `qop infix ")"`
+abbrev pub right_sections : Trees Terminal (QOpTree × InfixTree)
+right_sections = row section_ops (ended infixes t.RightParen)
+
+-- trees that are their tokens
+abbrev pub fixed : {N : Type 0} → (N → Ts) → Trees Terminal N
+fixed tokens = record { tokens = tokens; formed = λ n. true; deep = λ n. 0; extends = λ n k. false }
+
+-- the name of the unit or of a tuple behind its `(`
+abbrev pub tuple_names : Trees Terminal ℕ
+tuple_names = record {
+  tokens = λ n. replicate n t.Comma ++ t.RightParen ∷ [];
+  formed = λ n. nat_lt n 15;
+  deep = λ n. 0;
+  extends = λ n k. false;
 }

@@ -62,7 +62,7 @@ pub record Makes {K P T : Type 0} (whole : Trees K T) (part : Trees K P) (make :
   pub formed : (p : P) → whole.formed (make p) ≡ part.formed p
   pub deep : (p : P) → whole.deep (make p) ≡ part.deep p + used
   pub extends : (p : P) (k : K) → whole.extends (make p) k ≡ false → part.extends p k ≡ false
-  pub starts : (p : P) (after : List K) → test (part.tokens p ++ after) ≡ true
+  pub starts : (p : P) (after : List K) → part.formed p ≡ true → test (part.tokens p ++ after) ≡ true
   pub only : (x : T) (after : List K) → whole.formed x ≡ true → test (whole.tokens x ++ after) ≡ true →
       (p : P) × (x ≡ make p)
 
