@@ -78,7 +78,7 @@ unfolding token_algebra
 parts_spelled p =
     ap spelling_aexp (sym (a.rolls-Parts p.0 p.1)) ∙ aexp_folded token_algebra (AExpTree-F.Parts p.0 p.1)
     ∙ ap (λ ts. t.LeftParen ∷ ((spelling_exp p.0 ++ ts) ++ t.RightParen ∷ []))
-      (flat_map-map (λ x. t.Comma ∷ x) spelling_exp p.1)
+    (flat_map-map (λ x. t.Comma ∷ x) spelling_exp p.1)
 
 pub parts_is : (p : Parts) →
     is_aexp (a.Parts p.0 p.1) ≡ nat_lt (length p.1) 15 && (is_exp p.0 && all_of (map is_exp p.1))
@@ -86,7 +86,7 @@ unfolding fact_algebra
 parts_is p =
     ap is_aexp (sym (a.rolls-Parts p.0 p.1)) ∙ ap good_of (aexp_folded fact_algebra (AExpTree-F.Parts p.0 p.1))
     ∙ ap (λ n. nat_lt n 15 && (is_exp p.0 && all_of (map good_of (map facts_of_exp p.1))))
-      (length_of_map facts_of_exp p.1)
+    (length_of_map facts_of_exp p.1)
     ∙ ap (λ b. nat_lt (length p.1) 15 && (is_exp p.0 && b)) (all_good_of facts_of_exp p.1)
 
 pub parts_deep : (p : Parts) → depth_of_aexp (a.Parts p.0 p.1) ≡ (exp_parts None).deep p + 1
@@ -102,7 +102,7 @@ unfolding token_algebra
 list_spelled p =
     ap spelling_aexp (sym (a.rolls-List p.0 p.1)) ∙ aexp_folded token_algebra (AExpTree-F.List p.0 p.1)
     ∙ ap (λ ts. t.LeftBracket ∷ ((spelling_exp p.0 ++ ts) ++ t.RightBracket ∷ []))
-      (flat_map-map (λ x. t.Comma ∷ x) spelling_exp p.1)
+    (flat_map-map (λ x. t.Comma ∷ x) spelling_exp p.1)
 
 pub list_is : (p : Parts) → is_aexp (a.List p.0 p.1) ≡ (exp_parts None).formed p
 unfolding fact_algebra

@@ -230,9 +230,9 @@ right_opens : (p : QOpTree × InfixTree) → not (is_bare_minus p.0) ≡ true �
 right_opens p h after =
     ap paren_class (append_assoc (qop_tokens p.0) (spelling_infix p.1 ++ t.RightParen ∷ []) after)
     ∙ right_class p.0 ((spelling_infix p.1 ++ t.RightParen ∷ []) ++ after)
-      (opens_not ((spelling_infix p.1 ++ t.RightParen ∷ []) ++ after)
-      (opens_append (spelling_infix p.1 ++ t.RightParen ∷ []) after
-      (opens_append (spelling_infix p.1) (t.RightParen ∷ []) (infix_opens p.1)))) h
+    (opens_not ((spelling_infix p.1 ++ t.RightParen ∷ []) ++ after)
+    (opens_append (spelling_infix p.1 ++ t.RightParen ∷ []) after
+    (opens_append (spelling_infix p.1) (t.RightParen ∷ []) (infix_opens p.1)))) h
 
 named_class : (n : ℕ) (after : Ts) → paren_class ((replicate n t.Comma ++ t.RightParen ∷ []) ++ after) ≡ 7
 named_class zero after = refl

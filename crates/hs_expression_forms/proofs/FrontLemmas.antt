@@ -123,9 +123,10 @@ module _ (lone : Bool) (limit : Option ℕ) where
     where
       by : ExpCase x → FrontCase lone limit (inl x) s after
       by (is_plain c is) =
-          of_links (c, None) (ap inl is)
-          (sym (ap good_of (plain_facts c)) ∙ ap is_exp (sym is) ∙ good.0,
-          subst (Within limit) (ap (λ y. depth_of_exp y) is ∙ plain_deep c) good.1)
+          of_links (c, None) (ap inl is) (
+            sym (ap good_of (plain_facts c)) ∙ ap is_exp (sym is) ∙ good.0,
+            subst (Within limit) (ap (λ y. depth_of_exp y) is ∙ plain_deep c) good.1,
+          )
           (begins_within (exp_goes_on (facts_of_exp x)) (infix_goes_on (facts_of_infix c)) after
           (λ k h. goes_on_fewer true true (facts_of_exp x).ends_in_type true (facts_of_infix c).is_open
           (facts_of_infix c).ends_in_type k (λ h. refl) (λ h. refl)
@@ -170,8 +171,12 @@ module _ (lone : Bool) (limit : Option ℕ) where
   front_failed ts e r =
       fails_after (within (fronts lone) limit) (within (links lone) limit) [] ts ts e refl
       (λ before bad split q. record {
-        begun = (q.begun.0, front_of q.begun.1, front_of_good lone limit q.begun.1 q.begun.2,
-            q.begun.3 ∙ sym (front_of_tokens lone q.begun.1));
+        begun = (
+          q.begun.0,
+          front_of q.begun.1,
+          front_of_good lone limit q.begun.1 q.begun.2,
+          q.begun.3 ∙ sym (front_of_tokens lone q.begun.1),
+        );
         never = λ s other after same good quiet e. go before bad q s other after same
             (front_case other (before ++ s) after good quiet e);
       }) r
@@ -209,7 +214,7 @@ module _ (lone : Bool) (limit : Option ℕ) where
           let found = acc.reads.only s k after same good quiet e in (is ∙ ap front_of found.0, found.1)
       go s other after same (of_typed x ty is good shut ok deep quiet e) =
           let found = acc.reads.only s (x, None) (t.DoubleColon ∷ (spelling_type ty ++ after)) same good
-              (closed_quiet x (spelling_type ty ++ after) shut) e in
+          (closed_quiet x (spelling_type ty ++ after) shut) e in
           absurd (true≢false (ap (begins is_double_colon) found.1 ∙ begins_same is_double_colon here s same
           ∙ ends_here x (sym found.0) shut))
 
@@ -228,10 +233,15 @@ module _ (lone : Bool) (limit : Option ℕ) where
         ∙ ap (begins is_double_colon) at) ∙ plain x found.0))
     only_typed s other after same (of_typed y ty is good shut' ok deep quiet e) =
         let found = acc.reads.only s (y, None) (t.DoubleColon ∷ (spelling_type ty ++ after)) same good
-            (closed_quiet y (spelling_type ty ++ after) shut') e in
-        let same' : y ≡ x = ap (λ (l : Links). l.0) found.0 in
-        (ty, is ∙ ap (λ z. inl (v.Annotated z ty)) same', ok,
-        subst (λ z. Within limit (max (depth_of_infix z) (depth_of_type ty) + 1)) same' deep, quiet, sym found.1)
+        (closed_quiet y (spelling_type ty ++ after) shut') e in
+        let same' : y ≡ x = ap (λ (l : Links). l.0) found.0 in (
+          ty,
+          is ∙ ap (λ z. inl (v.Annotated z ty)) same',
+          ok,
+          subst (λ z. Within limit (max (depth_of_infix z) (depth_of_type ty) + 1)) same' deep,
+          quiet,
+          sym found.1,
+        )
 
     refused_typed : (before bad : Ts) → here ≡ before ++ bad → (more : Ts) (ty : TypeTree) →
         (within (fronts lone) limit).Good (inl (v.Annotated x ty)) → before ++ more ≡ t.DoubleColon ∷ spelling_type ty →
@@ -249,9 +259,9 @@ module _ (lone : Bool) (limit : Option ℕ) where
       );
       never = λ s other after same good quiet e.
           let same' : SameStart here (before ++ s) =
-              subst (λ l. SameStart l (before ++ s)) (sym split) (same_start_append before bad s same) in
+          subst (λ l. SameStart l (before ++ s)) (sym split) (same_start_append before bad s same) in
           let found = only_typed (before ++ s) other after same'
-              (front_case other (front ++ (before ++ s)) after good quiet (sym (append_assoc front before s) ∙ e)) in
+          (front_case other (front ++ (before ++ s)) after good quiet (sym (append_assoc front before s) ∙ e)) in
           never s found.0 after same found.2 found.3 found.4 found.5;
     }
 
@@ -263,8 +273,12 @@ module _ (lone : Bool) (limit : Option ℕ) where
       split = acc.spelled;
       left_is = refl;
       refuses = record {
-        begun = ([], front_of (x, None), front_of_good lone limit (x, None) acc.reads.good,
-            append-nil front ∙ sym (front_of_tokens lone (x, None)));
+        begun = (
+          [],
+          front_of (x, None),
+          front_of_good lone limit (x, None) acc.reads.good,
+          append-nil front ∙ sym (front_of_tokens lone (x, None)),
+        );
         never = λ s other after same good quiet e.
             let found = only_typed s other after same (front_case other (front ++ s) after good quiet e) in
             full (within_less limit _ _ (omega (arith, acc.measured_is)) found.3);
@@ -296,14 +310,14 @@ module _ (lone : Bool) (limit : Option ℕ) where
         only = λ s other after same good quiet e.
             let s' = t.DoubleColon ∷ (spelling_type ty ++ s) in
             let same' : SameStart here s' =
-                subst (λ l. SameStart l s') (sym at) (spelling_type ty ++ s, refl) in
+            subst (λ l. SameStart l s') (sym at) (spelling_type ty ++ s, refl) in
             let found = only_typed s' other after same' (front_case other (front ++ s') after good quiet
-                (sym (append_assoc front (t.DoubleColon ∷ spelling_type ty) s)
-                ∙ ap (λ l. (l ++ t.DoubleColon ∷ spelling_type ty) ++ s) (append-nil (spelling_infix x))
-                ∙ ap (λ l. l ++ s) (sym (typed_spelled x ty)) ∙ e)) in
+            (sym (append_assoc front (t.DoubleColon ∷ spelling_type ty) s)
+            ∙ ap (λ l. (l ++ t.DoubleColon ∷ spelling_type ty) ++ s) (append-nil (spelling_infix x))
+            ∙ ap (λ l. l ++ s) (sym (typed_spelled x ty)) ∙ e)) in
             let type_is = q.reads.only s found.0 after same
-                (found.2, within_lowered limit (depth_of_type found.0) 1 (within_less limit _ _ (omega arith) found.3))
-                found.4 (uncons _ _ _ found.5) in
+            (found.2, within_lowered limit (depth_of_type found.0) 1 (within_less limit _ _ (omega arith) found.3))
+            found.4 (uncons _ _ _ found.5) in
             (found.1 ∙ ap (λ z. inl (v.Annotated x z)) type_is.0, type_is.1);
       };
       measured_is = ap (λ k. max k n + 1) acc.measured_is ∙ ap (λ k. max (depth_of_infix x) k + 1) q.measured_is

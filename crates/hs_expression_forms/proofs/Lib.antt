@@ -15,3 +15,4 @@ pub mod LinkFirstLemmas
 pub mod FrontLemmas
 pub mod BunchLemmas
 pub mod AExpLemmas
+pub mod RowLemmas

@@ -48,7 +48,6 @@ use Rattle.hs_expression_forms.proofs.LinkStepLemmas.{Behind, lone_at, plain_at,
 use Rattle.hs_expression_forms.proofs.LinkStepLemmas.{begins_none}
 use Rattle.hs_expression_forms.proofs.OperandLemmas.{operand_starts}
 use Rattle.hs_expression_forms.proofs.QOpLemmas.{qop_unique}
-
 use Rattle.hs_expression_forms.proofs.LinkReturnLemmas.{chain_pieces, add, add_pieces, add_head, made_pieces, made_head}
 use Rattle.hs_expression_forms.proofs.LinkReturnLemmas.{SignedTook, SignedRejects, over, part, SignedFails, minus_qop}
 use Rattle.hs_expression_forms.proofs.LinkReturnLemmas.{minus_operand, no_lone, alone_quiet, operand_not_minus}
@@ -69,7 +68,7 @@ least_operand = d.Apply (a.Con g.Unit) []
 pub least_operand_good : (limit : Option ℕ) → (within operands limit).Good least_operand
 least_operand_good limit =
     let is : is_operand least_operand ≡ true =
-        ap good_of (apply_facts (a.Con g.Unit, [])) ∙ ap (λ b. b && true) (con_is g.Unit) in
+    ap good_of (apply_facts (a.Con g.Unit, [])) ∙ ap (λ b. b && true) (con_is g.Unit) in
     let deep : depth_of_operand least_operand ≡ max (depth_of_aexp (a.Con g.Unit)) 0 = apply_deep (a.Con g.Unit, []) in
     (is, subst (Within limit) (sym (omega (arith, deep, con_deep g.Unit))) (within_zero limit))
 
@@ -146,9 +145,12 @@ module _ (limit : Option ℕ) (ts : Ts) (x : InfixTree) (here : Ts) (deep ops : 
 
   pub completes_lone : (facts_of_infix x).is_open ≡ false → Completes true
   completes_lone shut op =
-      let good = none_good limit ts x here deep ops st true in
-      ([], (x, Some op), (and_from (is_infix x) _ good.0 (ap not shut), good.1),
-      ap (λ l. spelling_infix x ++ l) (append-nil (qop_tokens op)))
+      let good = none_good limit ts x here deep ops st true in (
+        [],
+        (x, Some op),
+        (and_from (is_infix x) _ good.0 (ap not shut), good.1),
+        ap (λ l. spelling_infix x ++ l) (append-nil (qop_tokens op)),
+      )
 
   add_spelled : (op : QOpTree) (b : Bool) (e : OperandTree) →
       spelling_infix (add x op b e) ≡ spelling_infix x ++ (qop_tokens op ++ (sign_tokens b ++ spelling_operand e))
@@ -157,10 +159,10 @@ module _ (limit : Option ℕ) (ts : Ts) (x : InfixTree) (here : Ts) (deep ops : 
       sym (append-nil (spelling_infix y)) ∙ sym (links_spelled (y, None))
       ∙ ap (λ h. maybe_tokens h ++ flat_map piece_tokens (links_pieces (y, None))) (add_head x op b e)
       ∙ ap (λ l. maybe_tokens (links_head (x, None)) ++ flat_map piece_tokens l)
-        (append-nil (chain_pieces y) ∙ add_pieces x op b e)
+      (append-nil (chain_pieces y) ∙ add_pieces x op b e)
       ∙ ap (λ l. maybe_tokens (links_head (x, None)) ++ l) (flat_map-append piece_tokens (chain_pieces x) (link_of op b e))
       ∙ sym (append_assoc (maybe_tokens (links_head (x, None))) (flat_map piece_tokens (chain_pieces x))
-        (flat_map piece_tokens (link_of op b e)))
+      (flat_map piece_tokens (link_of op b e)))
       ∙ ap (λ l. l ++ flat_map piece_tokens (link_of op b e)) (front_is limit ts x here deep ops st)
       ∙ ap (λ l. spelling_infix x ++ l) (one b)
     where
@@ -173,9 +175,12 @@ module _ (limit : Option ℕ) (ts : Ts) (x : InfixTree) (here : Ts) (deep ops : 
   completes_room shut room lone op =
       let more : deep + ((ops + 1) + 0) ≡ deep + (ops + 1) = omega arith in
       let good = add_good limit ts x here deep ops st op false least_operand shut
-          (least_operand_good (lowered limit ((ops + 1) + 0))) (subst (Within limit) (sym more) room) lone in
-      (spelling_operand least_operand, (add x op false least_operand, None), good,
-      sym (add_spelled op false least_operand) ∙ sym (append-nil (spelling_infix (add x op false least_operand))))
+      (least_operand_good (lowered limit ((ops + 1) + 0))) (subst (Within limit) (sym more) room) lone in (
+        spelling_operand least_operand,
+        (add x op false least_operand, None),
+        good,
+        sym (add_spelled op false least_operand) ∙ sym (append-nil (spelling_infix (add x op false least_operand))),
+      )
 
   module _ (lone : Bool) where
     -- no operator
@@ -188,16 +193,19 @@ module _ (limit : Option ℕ) (ts : Ts) (x : InfixTree) (here : Ts) (deep ops : 
         refused : (before bad : Ts) → here ≡ before ++ bad → Refuses (within qops limit) before bad →
             Refuses (within (links lone) limit) (spelling_infix x ++ before) bad
         refused before bad split q = record {
-          begun = (let c = done q.begun.1 in
-              (q.begun.0 ++ c.0, c.1, c.2,
-              append_assoc (spelling_infix x) before (q.begun.0 ++ c.0)
-              ∙ ap (λ l. spelling_infix x ++ l) (sym (append_assoc before q.begun.0 c.0) ∙ ap (λ l. l ++ c.0) q.begun.3)
-              ∙ c.3));
+          begun = (let c = done q.begun.1 in (
+            q.begun.0 ++ c.0,
+            c.1,
+            c.2,
+            append_assoc (spelling_infix x) before (q.begun.0 ++ c.0)
+                ∙ ap (λ l. spelling_infix x ++ l) (sym (append_assoc before q.begun.0 c.0) ∙ ap (λ l. l ++ c.0) q.begun.3)
+                ∙ c.3,
+          ));
           never = λ s other after same good quiet e.
               let same' : SameStart here (before ++ s) =
-                  subst (λ l. SameStart l (before ++ s)) (sym split) (same_start_append before bad s same) in
+              subst (λ l. SameStart l (before ++ s)) (sym split) (same_start_append before bad s same) in
               let m = meet lone limit ts x here deep ops st (before ++ s) other after same' good quiet
-                  (sym (append_assoc (spelling_infix x) before s) ∙ e) in
+              (sym (append_assoc (spelling_infix x) before s) ∙ e) in
               go before bad split q s other after same same' good quiet m m.next;
         }
           where
@@ -230,7 +238,7 @@ module _ (limit : Option ℕ) (ts : Ts) (x : InfixTree) (here : Ts) (deep ops : 
           (and_from (is_infix x) _ good.0 (ap not shut), good.1));
       only = λ s other after same good quiet e.
           let m = meet true limit ts x here deep ops st (qop_tokens op ++ s) other after (into s op rest at same) good quiet
-              (sym (append_assoc (spelling_infix x) (qop_tokens op) s) ∙ e) in
+          (sym (append_assoc (spelling_infix x) (qop_tokens op) s) ∙ e) in
           go s other after same m (behind true limit x deep ops op other s after (sym st.ops_is) good quiet m);
     };
     measured_is = sym (depth_is limit ts x here deep ops st);
@@ -264,7 +272,7 @@ module _ (limit : Option ℕ) (ts : Ts) (x : InfixTree) (here : Ts) (deep ops : 
       good = none_good limit ts x here deep ops st lone;
       only = λ s other after same good quiet e.
           let m = meet lone limit ts x here deep ops st s other after same good quiet
-              (ap (λ l. l ++ s) (sym (append-nil (spelling_infix x))) ∙ e) in
+          (ap (λ l. l ++ s) (sym (append-nil (spelling_infix x))) ∙ e) in
           go s other after same good m m.next;
     };
     measured_is = sym (depth_is limit ts x here deep ops st);
@@ -278,7 +286,7 @@ module _ (limit : Option ℕ) (ts : Ts) (x : InfixTree) (here : Ts) (deep ops : 
           let c = pieces_chain limit in
           let last = infix_last x in
           let whole = subst (λ l. (pieces_form limit).Good (links_head other, l))
-              (m.pieces ∙ ap (λ l. chain_pieces x ++ l) is) (links_good limit lone other good) in
+          (m.pieces ∙ ap (λ l. chain_pieces x ++ l) is) (links_good limit lone other good) in
           true≢false (sym (ap maybe_open last.1 ∙ last.2 ∙ opened)
           ∙ ap (λ h. maybe_open (last_maybe h (chain_pieces x))) (sym m.head)
           ∙ c.full (links_head other) (chain_pieces x) p rest whole)
@@ -325,7 +333,7 @@ module _ (limit : Option ℕ) (ts : Ts) (x : InfixTree) (here : Ts) (deep ops : 
         begun = (let c = done op in (c.0, c.1, c.2, append_assoc (spelling_infix x) (qop_tokens op) c.0 ∙ c.3));
         never = λ s other after same good quiet e.
             let m = meet lone limit ts x here deep ops st (qop_tokens op ++ s) other after (into s op rest at same) good quiet
-                (sym (append_assoc (spelling_infix x) (qop_tokens op) s) ∙ e) in
+            (sym (append_assoc (spelling_infix x) (qop_tokens op) s) ∙ e) in
             go s other after same good quiet m (behind lone limit x deep ops op other s after (sym st.ops_is) good quiet m)
             (begins is_minus rest) refl full;
       };
@@ -371,12 +379,12 @@ module _ (limit : Option ℕ) (ts : Ts) (x : InfixTree) (here : Ts) (deep ops : 
         never = λ s other after same good quiet e.
             let s' = sign_tokens b ++ (r.before ++ s) in
             let same' : SameStart rest s' =
-                subst (λ l. SameStart l s') (sym (split ∙ ap (λ l. sign_tokens b ++ l) r.split))
-                (same_start_append (sign_tokens b) (r.before ++ r.bad) (r.before ++ s) (same_start_append r.before r.bad s same)) in
+            subst (λ l. SameStart l s') (sym (split ∙ ap (λ l. sign_tokens b ++ l) r.split))
+            (same_start_append (sign_tokens b) (r.before ++ r.bad) (r.before ++ s) (same_start_append r.before r.bad s same)) in
             let m = meet lone limit ts x here deep ops st (qop_tokens op ++ s') other after (into s' op rest at same') good quiet
-                (ap (λ l. spelling_infix x ++ (qop_tokens op ++ l)) (sym (append_assoc (sign_tokens b) r.before s))
-                ∙ sym (append_assoc (spelling_infix x) (qop_tokens op) ((sign_tokens b ++ r.before) ++ s))
-                ∙ sym (append_assoc (spelling_infix x ++ qop_tokens op) (sign_tokens b ++ r.before) s) ∙ e) in
+            (ap (λ l. spelling_infix x ++ (qop_tokens op ++ l)) (sym (append_assoc (sign_tokens b) r.before s))
+            ∙ sym (append_assoc (spelling_infix x) (qop_tokens op) ((sign_tokens b ++ r.before) ++ s))
+            ∙ sym (append_assoc (spelling_infix x ++ qop_tokens op) (sign_tokens b ++ r.before) s) ∙ e) in
             go b is_b s other after same same' good quiet m
             (behind lone limit x deep ops op other s' after (sym st.ops_is) good quiet m) r.refuses;
       };

@@ -48,7 +48,6 @@ use Rattle.hs_expression_forms.proofs.LinkStepLemmas.{Behind, lone_at, plain_at,
 use Rattle.hs_expression_forms.proofs.LinkStepLemmas.{begins_none}
 use Rattle.hs_expression_forms.proofs.OperandLemmas.{operand_starts}
 use Rattle.hs_expression_forms.proofs.QOpLemmas.{qop_unique, qop_long}
-
 use Rattle.hs_expression_forms.proofs.LinkReturnLemmas.{chain_pieces, add, add_pieces, add_head, made_pieces, made_head}
 use Rattle.hs_expression_forms.proofs.LinkReturnLemmas.{SignedTook, SignedRejects, over, part, SignedFails, minus_qop}
 use Rattle.hs_expression_forms.proofs.LinkReturnLemmas.{minus_operand, no_lone, alone_quiet, operand_not_minus}
@@ -61,7 +60,6 @@ use Rattle.hs_expression_forms.proofs.AExpLayerLemmas.{con_is, con_deep}
 use Rattle.hs_expression_forms.proofs.OperandLayerLemmas.{apply_facts, apply_deep}
 use Rattle.hs_expression_forms.specs.Expressions.{depth_of_aexp, is_aexp}
 use Rattle.hs_modules.specs.Formed.{good_of}
-
 use Rattle.hs_expression_forms.proofs.LinkAnswerLemmas.{least_operand, least_operand_good}
 use Rattle.hs_modules.specs.declared.expressions.InfixTree.{roll-out-InfixTree}
 use Rattle.hs_modules.specs.declared.expressions.SignedOperand.{roll-out-SignedOperand}
@@ -102,8 +100,8 @@ piece_reads limit n op v rest r = record {
   good = r.good;
   only = λ s other after same good quiet q.
       let cut = qop_unique op other.0 (maybe_tokens v ++ s) (maybe_tokens other.1 ++ after)
-          (sym (append_assoc (qop_tokens op) (maybe_tokens v) s) ∙ q
-          ∙ append_assoc (qop_tokens other.0) (maybe_tokens other.1) after) in
+      (sym (append_assoc (qop_tokens op) (maybe_tokens v) s) ∙ q
+      ∙ append_assoc (qop_tokens other.0) (maybe_tokens other.1) after) in
       let found = r.only s other.1 after same good quiet (sym cut.1) in
       (λ i. (cut.0 i, found.0 i), found.1);
 }
@@ -142,24 +140,24 @@ module _ (limit : Option ℕ) (ts : Ts) (x : InfixTree) (here : Ts) (deep ops : 
       let n : (ops + 1) + 1 ≡ length (chain_pieces x ++ (op, None) ∷ []) + 1 = omega (arith, st.ops_is, long) in
       let took' = subst (λ k. Took operands (lowered limit k) next e rest' m) n took in
       let one : State c ts (links_head (x, None)) (chain_pieces x ++ (op, None) ∷ []) rest (max deep 0) =
-          state_step c ts (links_head (x, None)) (chain_pieces x) here deep (op, None) rest 0 st.state (last_shut shut)
-          (record {
-            spelled = at ∙ ap (λ l. l ++ rest) (sym (append-nil (qop_tokens op)));
-            reads = piece_reads limit k op None rest
-                (none_reads (lowered limit (k + 1)) rest (ap (begins is_minus) split));
-            measured_is = refl;
-            room = omega (arith, ap length at, length-append (qop_tokens op) rest, qop_long op);
-          }) in
+      state_step c ts (links_head (x, None)) (chain_pieces x) here deep (op, None) rest 0 st.state (last_shut shut)
+      (record {
+        spelled = at ∙ ap (λ l. l ++ rest) (sym (append-nil (qop_tokens op)));
+        reads = piece_reads limit k op None rest
+            (none_reads (lowered limit (k + 1)) rest (ap (begins is_minus) split));
+        measured_is = refl;
+        room = omega (arith, ap length at, length-append (qop_tokens op) rest, qop_long op);
+      }) in
       let two = state_step c ts (links_head (x, None)) (chain_pieces x ++ (op, None) ∷ []) rest (max deep 0)
-          (q_of.Sym minus, Some e) rest' m one
-          (ap maybe_open (last_more (links_head (x, None)) (chain_pieces x) (op, None)))
-          (record {
-            spelled = split ∙ ap (λ l. t.VarSym minus ∷ l) took'.spelled;
-            reads = piece_reads limit (length (chain_pieces x ++ (op, None) ∷ [])) (q_of.Sym minus) (Some e) rest'
-                (maybe_reads (lowered limit (length (chain_pieces x ++ (op, None) ∷ []) + 1)) e rest' took'.reads);
-            measured_is = took'.measured_is;
-            room = omega (arith, took'.room, ap length split);
-          }) in
+      (q_of.Sym minus, Some e) rest' m one
+      (ap maybe_open (last_more (links_head (x, None)) (chain_pieces x) (op, None)))
+      (record {
+        spelled = split ∙ ap (λ l. t.VarSym minus ∷ l) took'.spelled;
+        reads = piece_reads limit (length (chain_pieces x ++ (op, None) ∷ [])) (q_of.Sym minus) (Some e) rest'
+            (maybe_reads (lowered limit (length (chain_pieces x ++ (op, None) ∷ []) + 1)) e rest' took'.reads);
+        measured_is = took'.measured_is;
+        room = omega (arith, took'.room, ap length split);
+      }) in
       let deeper : max (max deep 0) m ≡ max deep m = omega arith in
       subst (λ d. State c ts (links_head (x, None)) (chain_pieces x ++ link_of op true e) rest' d) deeper
       (subst (λ l. State c ts (links_head (x, None)) l rest' (max (max deep 0) m))
@@ -233,7 +231,7 @@ first_state limit ts s rest m k =
     let st = first_chain limit ts b e k.next rest m k.at k.took k.room in
     let pieces : chain_pieces (make_infix s []) ≡ sign_of b e = made_pieces s [] ∙ append-nil (sign_of b e) in
     let state = subst (λ h. State (pieces_chain limit) ts h (chain_pieces (make_infix s [])) rest m) (sym (made_head s []))
-        (subst (λ l. State (pieces_chain limit) ts (head_of b e) l rest m) (sym pieces) st) in
+    (subst (λ l. State (pieces_chain limit) ts (head_of b e) l rest m) (sym pieces) st) in
     record {
       state = state;
       good = infix_formed (make_infix s []) ∙ state.so.good.0;
@@ -259,7 +257,7 @@ first_is lone limit other s after good quiet e =
     let b = negated_of o.first in
     let x = operand_of o.first in
     let pieces : links_pieces other ≡ sign_of b x ++ more =
-        append_assoc (sign_of b x) (flat_map pieces_of_link o.rest) (tail_pieces other.1) in
+    append_assoc (sign_of b x) (flat_map pieces_of_link o.rest) (tail_pieces other.1) in
     by b x more pieces refl (subst (λ l. (pieces_form limit).Good (links_head other, l)) pieces (links_good limit lone other good))
     (subst (λ l. begins ((pieces_form limit).extends (links_head other, l)) after ≡ false) pieces
     (begins_within ((links lone).extends other) ((pieces_form limit).extends (links_head other, links_pieces other)) after
@@ -316,13 +314,14 @@ signed_good lone limit b e room good =
     let s = make_signed b e in
     let x = make_infix s [] in
     let pieces : chain_pieces x ≡ sign_of b e = made_pieces s [] ∙ append-nil (sign_of (negated_of s) (operand_of s))
-        ∙ ap (λ o. sign_of o.negated o.operand) (out-roll-SignedOperand (record { negated = b; operand = e })) in
+    ∙ ap (λ o. sign_of o.negated o.operand) (out-roll-SignedOperand (record { negated = b; operand = e })) in
     let head : links_head (x, None) ≡ head_of b e = made_head s []
-        ∙ ap (λ o. head_of o.negated o.operand) (out-roll-SignedOperand (record { negated = b; operand = e })) in
-    (infix_formed x ∙ ap (λ h. pieces_formed h (chain_pieces x)) head ∙ ap (pieces_formed (head_of b e)) pieces ∙ formed b good,
-    subst (Within limit) (sym (infix_deep x ∙ ap (λ h. max (maybe_deep h) (deepest (map piece_deep (chain_pieces x))) + length (chain_pieces x)) head
-    ∙ ap (λ l. max (maybe_deep (head_of b e)) (deepest (map piece_deep l)) + length l) pieces ∙ deeper b))
-    (within_raised limit (depth_of_operand e) (0 + sign b) (within_less limit _ _ (omega arith) room) good.1))
+    ∙ ap (λ o. head_of o.negated o.operand) (out-roll-SignedOperand (record { negated = b; operand = e })) in (
+      infix_formed x ∙ ap (λ h. pieces_formed h (chain_pieces x)) head ∙ ap (pieces_formed (head_of b e)) pieces ∙ formed b good,
+      subst (Within limit) (sym (infix_deep x ∙ ap (λ h. max (maybe_deep h) (deepest (map piece_deep (chain_pieces x))) + length (chain_pieces x)) head
+          ∙ ap (λ l. max (maybe_deep (head_of b e)) (deepest (map piece_deep l)) + length l) pieces ∙ deeper b))
+          (within_raised limit (depth_of_operand e) (0 + sign b) (within_less limit _ _ (omega arith) room) good.1),
+    )
   where
     formed : (b : Bool) → (within operands (lowered limit (0 + sign b))).Good e → pieces_formed (head_of b e) (sign_of b e) ≡ true
     formed true good = and_from _ _ (and_from (is_operand e) true good.0 refl) refl
@@ -339,9 +338,9 @@ signed_spelled b e =
     let s = make_signed b e in
     let x = make_infix s [] in
     let pieces : chain_pieces x ≡ sign_of b e = made_pieces s [] ∙ append-nil (sign_of (negated_of s) (operand_of s))
-        ∙ ap (λ o. sign_of o.negated o.operand) (out-roll-SignedOperand (record { negated = b; operand = e })) in
+    ∙ ap (λ o. sign_of o.negated o.operand) (out-roll-SignedOperand (record { negated = b; operand = e })) in
     let head : links_head (x, None) ≡ head_of b e = made_head s []
-        ∙ ap (λ o. head_of o.negated o.operand) (out-roll-SignedOperand (record { negated = b; operand = e })) in
+    ∙ ap (λ o. head_of o.negated o.operand) (out-roll-SignedOperand (record { negated = b; operand = e })) in
     sym (append-nil (spelling_infix x)) ∙ sym (links_spelled (x, None))
     ∙ ap (λ h. maybe_tokens h ++ flat_map piece_tokens (links_pieces (x, None))) head
     ∙ ap (λ l. maybe_tokens (head_of b e) ++ flat_map piece_tokens l) (append-nil (chain_pieces x) ∙ pieces) ∙ one b
@@ -350,7 +349,7 @@ signed_spelled b e =
     one true = ap (λ l. t.VarSym minus ∷ l) (append-nil (spelling_operand e))
     one false = append-nil (spelling_operand e)
 
-pub least_infix : InfixTree
+abbrev pub least_infix : InfixTree
 least_infix = make_infix (make_signed false least_operand) []
 
 pub least_links_good : (lone : Bool) (limit : Option ℕ) → (within (links lone) limit).Good (make_infix (make_signed false least_operand) [], None)
@@ -407,9 +406,9 @@ first_fails lone limit ts (f.At left) (part next split room r) = parts (begins i
             let s' = sign_tokens b ++ (r.before ++ s) in
             let found = first_is lone limit other s' after good quiet (sym (append_assoc (sign_tokens b) r.before s) ∙ e) in
             let same' : SameStart ts s' =
-                subst (λ l. SameStart l s') (sym (split ∙ ap (λ l. sign_tokens b ++ l) r.split))
-                (same_start_append (sign_tokens b) (r.before ++ r.bad) (r.before ++ s)
-                (same_start_append r.before r.bad s same)) in
+            subst (λ l. SameStart l s') (sym (split ∙ ap (λ l. sign_tokens b ++ l) r.split))
+            (same_start_append (sign_tokens b) (r.before ++ r.bad) (r.before ++ s)
+            (same_start_append r.before r.bad s same)) in
             go b is_b s same same' found.0 found.1 found.2 found.3 found.4 found.5 r.refuses;
       };
     }

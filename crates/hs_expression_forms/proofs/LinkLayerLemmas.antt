@@ -122,8 +122,8 @@ pieces_spelled (x ∷ xs) =
     let o = out-OpOperand x in
     flat_map-append piece_tokens (pieces_of_link x) (flat_map pieces_of_link xs)
     ∙ ap (λ ts. ts ++ flat_map piece_tokens (flat_map pieces_of_link xs))
-      (link_of_spelled o.op (negated_of o.operand) (operand_of o.operand)
-      ∙ ap (λ ts. qop_tokens o.op ++ ts) (sym (signed_spelled o.operand)) ∙ sym (link_spelled x))
+    (link_of_spelled o.op (negated_of o.operand) (operand_of o.operand)
+    ∙ ap (λ ts. qop_tokens o.op ++ ts) (sym (signed_spelled o.operand)) ∙ sym (link_spelled x))
     ∙ ap (λ ts. spelling_link x ++ ts) (pieces_spelled xs)
 
 first_spelled : (b : Bool) (e : OperandTree) (ps : List Piece) →
@@ -137,11 +137,11 @@ pub chain_spelled : (s : SignedOperand) (xs : List OpOperand) (ps : List Piece) 
     ≡ (spelling_signed s ++ flat_map spelling_link xs) ++ flat_map piece_tokens ps
 chain_spelled s xs ps =
     ap (λ l. maybe_tokens (head_piece s) ++ flat_map piece_tokens l)
-      (append_assoc (sign_of (negated_of s) (operand_of s)) (flat_map pieces_of_link xs) ps)
+    (append_assoc (sign_of (negated_of s) (operand_of s)) (flat_map pieces_of_link xs) ps)
     ∙ first_spelled (negated_of s) (operand_of s) (flat_map pieces_of_link xs ++ ps)
     ∙ ap (λ ts. ts ++ flat_map piece_tokens (flat_map pieces_of_link xs ++ ps)) (sym (signed_spelled s))
     ∙ ap (λ ts. spelling_signed s ++ ts) (flat_map-append piece_tokens (flat_map pieces_of_link xs) ps
-      ∙ ap (λ ts. ts ++ flat_map piece_tokens ps) (pieces_spelled xs))
+    ∙ ap (λ ts. ts ++ flat_map piece_tokens ps) (pieces_spelled xs))
     ∙ sym (append_assoc (spelling_signed s) (flat_map spelling_link xs) (flat_map piece_tokens ps))
 
 tail_spelled : (o : Option QOpTree) → flat_map piece_tokens (tail_pieces o) ≡ tail_tokens o
@@ -209,11 +209,11 @@ infix_deep x =
     let o = out-InfixTree x in
     infix_extent x
     ∙ ap (λ (e : ℕ × Extent). max e.1.depth (deepest (map depth_of (map (λ o. o.1) (link_pairs o.rest))))
-      + (e.0 + sum (map (λ o. o.0) (link_pairs o.rest)))) (signed_extent o.first)
+    + (e.0 + sum (map (λ o. o.0) (link_pairs o.rest)))) (signed_extent o.first)
     ∙ ap (λ n. max (depth_of_operand (operand_of o.first)) n + (sign (negated_of o.first)
-      + sum (map (λ o. o.0) (link_pairs o.rest)))) (pieces_deep o.rest)
+    + sum (map (λ o. o.0) (link_pairs o.rest)))) (pieces_deep o.rest)
     ∙ ap (λ n. max (depth_of_operand (operand_of o.first)) (deepest (map piece_deep (flat_map pieces_of_link o.rest)))
-      + (sign (negated_of o.first) + n)) (pieces_long o.rest)
+    + (sign (negated_of o.first) + n)) (pieces_long o.rest)
     ∙ sym (first_deep (negated_of o.first) (operand_of o.first) (flat_map pieces_of_link o.rest))
 
 -- good trees
@@ -257,11 +257,11 @@ infix_formed x =
     let o = out-InfixTree x in
     ap good_of (infix_facts x)
     ∙ ap (λ b. ((facts_of_signed o.first).good && b) && closed_front (facts_of_signed o.first) (map facts_of_link o.rest))
-      (all_pieces o.rest)
+    (all_pieces o.rest)
     ∙ ap (λ b. ((facts_of_signed o.first).good && all_of (map piece_formed (flat_map pieces_of_link o.rest))) && b)
-      (front_pieces (facts_of_signed o.first) o.rest)
+    (front_pieces (facts_of_signed o.first) o.rest)
     ∙ ap (λ (f : Facts). (f.good && all_of (map piece_formed (flat_map pieces_of_link o.rest)))
-      && shut_front f.is_open (map piece_open (flat_map pieces_of_link o.rest))) (signed_facts o.first)
+    && shut_front f.is_open (map piece_open (flat_map pieces_of_link o.rest))) (signed_facts o.first)
     ∙ sym (first_formed (negated_of o.first) (operand_of o.first) (flat_map pieces_of_link o.rest))
 
 -- the last operand
@@ -350,7 +350,7 @@ links_quiet lone limit (x, None) k e =
     let last = infix_last x in
     let f = facts_of_infix x in
     let m : last_maybe (links_head (x, None)) (ps ++ []) ≡ Some last.0 =
-        ap (last_maybe (links_head (x, None))) (append-nil ps) ∙ last.1 in
+    ap (last_maybe (links_head (x, None))) (append-nil ps) ∙ last.1 in
     or_off _ _ (or_left (starts_qop k) _ (or_right (starts_aexp k) _ e))
     (ap (λ m. maybe_goes_on m k) m
     ∙ ap (λ b. goes_on b b (facts_of_operand last.0).ends_in_type k) last.2

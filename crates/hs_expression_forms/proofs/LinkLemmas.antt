@@ -80,8 +80,11 @@ unlinks_pieces (x ∷ xs) o =
     let l = out-OpOperand x in
     ap unlinks (append_assoc (pieces_of_link x) (flat_map pieces_of_link xs) (tail_pieces o))
     ∙ unlinks_link l.op (negated_of l.operand) (operand_of l.operand) (flat_map pieces_of_link xs ++ tail_pieces o)
-    ∙ ap (λ (r : List OpOperand × Option QOpTree). (make_link l.op (make_signed (negated_of l.operand)
-      (operand_of l.operand)) ∷ r.0, r.1)) (unlinks_pieces xs o)
+    ∙ ap (λ (r : List OpOperand × Option QOpTree). (
+      make_link l.op (make_signed (negated_of l.operand)
+          (operand_of l.operand)) ∷ r.0,
+      r.1,
+    )) (unlinks_pieces xs o)
     ∙ ap (λ y. (y ∷ xs, o)) (link_is x)
 
 unpieces : Maybe → List Piece → Option (SignedOperand × (List OpOperand × Option QOpTree))
@@ -101,7 +104,7 @@ unpieces_links : (l : Links) →
 unpieces_links l =
     let o = out-InfixTree l.0 in
     ap (unpieces (head_piece o.first))
-      (append_assoc (sign_of (negated_of o.first) (operand_of o.first)) (flat_map pieces_of_link o.rest) (tail_pieces l.1))
+    (append_assoc (sign_of (negated_of o.first) (operand_of o.first)) (flat_map pieces_of_link o.rest) (tail_pieces l.1))
     ∙ unpieces_first (negated_of o.first) (operand_of o.first) (flat_map pieces_of_link o.rest ++ tail_pieces l.1)
     ∙ ap (λ r. Some (make_signed (negated_of o.first) (operand_of o.first), r)) (unlinks_pieces o.rest l.1)
     ∙ ap (λ s. Some (s, (o.rest, l.1))) (roll-out-SignedOperand o.first)
@@ -117,8 +120,8 @@ links_same l l' h ps =
     let o = out-InfixTree l.0 in
     let o' = out-InfixTree l'.0 in
     let e : Some (o.first, (o.rest, l.1)) ≡ Some (o'.first, (o'.rest, l'.1)) =
-        sym (unpieces_links l) ∙ ap (λ m. unpieces m (links_pieces l)) h ∙ ap (unpieces (links_head l')) ps
-        ∙ unpieces_links l' in
+    sym (unpieces_links l) ∙ ap (λ m. unpieces m (links_pieces l)) h ∙ ap (unpieces (links_head l')) ps
+    ∙ unpieces_links l' in
     let e' = ap rebuilt (some_same (o.first, (o.rest, l.1)) (o'.first, (o'.rest, l'.1)) e) in
     ap (λ x. (x, l.1)) (sym (roll-out-InfixTree l.0)) ∙ e' ∙ ap (λ x. (x, l'.1)) (roll-out-InfixTree l'.0)
 
@@ -235,30 +238,30 @@ module _ (lone : Bool) (limit : Option ℕ) where
       let k = out-InfixTree other.0 in
       let ps = first_pieces o.first o.rest in
       let front : maybe_tokens (links_head (x, None)) ++ flat_map piece_tokens ps ≡ spelling_infix x =
-          ap (λ l. maybe_tokens (links_head (x, None)) ++ flat_map piece_tokens l) (sym (append-nil ps))
-          ∙ links_spelled (x, None) ∙ append-nil (spelling_infix x) in
+      ap (λ l. maybe_tokens (links_head (x, None)) ++ flat_map piece_tokens l) (sym (append-nil ps))
+      ∙ links_spelled (x, None) ∙ append-nil (spelling_infix x) in
       let found = st.state.so.only s (links_head other) (links_pieces other) after same (links_good limit lone other good)
-          (begins_within ((links lone).extends other) ((pieces_form limit).extends (links_head other, links_pieces other))
-          after (links_quiet lone limit other) quiet)
-          (ap (λ l. l ++ s) front ∙ e ∙ ap (λ l. l ++ after) (sym (links_spelled other))) in
+      (begins_within ((links lone).extends other) ((pieces_form limit).extends (links_head other, links_pieces other))
+      after (links_quiet lone limit other) quiet)
+      (ap (λ l. l ++ s) front ∙ e ∙ ap (λ l. l ++ after) (sym (links_spelled other))) in
       let stripped = strip_first o.first k.first o.rest k.rest other.1 found.1 found.0 found.2 in
       let beyond = length (flat_map pieces_of_link stripped.0) in
       let long : length (first_pieces k.first k.rest) ≡ length ps + beyond =
-          omega (
-            arith,
-            length-append (first_pieces k.first k.rest) (tail_pieces other.1),
-            ap length found.2,
-            length-append ps found.1,
-            ap length stripped.1,
-            length-append (flat_map pieces_of_link stripped.0) (tail_pieces other.1),
-          ) in
+      omega (
+        arith,
+        length-append (first_pieces k.first k.rest) (tail_pieces other.1),
+        ap length found.2,
+        length-append ps found.1,
+        ap length stripped.1,
+        length-append (flat_map pieces_of_link stripped.0) (tail_pieces other.1),
+      ) in
       let deeper : deepest (map piece_deep ps) ≤ deepest (map piece_deep (first_pieces k.first k.rest)) =
-          omega (
-            arith,
-            deep_front piece_deep ps found.1,
-            ap (λ l. deepest (map piece_deep l)) found.2,
-            tail_deep (first_pieces k.first k.rest) other.1,
-          ) in
+      omega (
+        arith,
+        deep_front piece_deep ps found.1,
+        ap (λ l. deepest (map piece_deep l)) found.2,
+        tail_deep (first_pieces k.first k.rest) other.1,
+      ) in
       record {
         more = found.1;
         beyond = beyond;

@@ -60,7 +60,7 @@ link_pieces : (op : QOpTree) (b : Bool) (e : OperandTree) →
     pieces_of_link (make_link op (make_signed b e)) ≡ link_of op b e
 link_pieces op b e =
     ap (λ o. link_of o.op (negated_of o.operand) (operand_of o.operand))
-      (out-roll-OpOperand (record { op = op; operand = make_signed b e }))
+    (out-roll-OpOperand (record { op = op; operand = make_signed b e }))
     ∙ ap (λ s. link_of op s.negated s.operand) (out-roll-SignedOperand (record { negated = b; operand = e }))
 
 pub made_pieces : (s : SignedOperand) (xs : List OpOperand) → chain_pieces (make_infix s xs) ≡ first_pieces s xs
@@ -79,9 +79,9 @@ add_pieces x op b e =
     let o = out-InfixTree x in
     made_pieces o.first (o.rest ++ make_link op (make_signed b e) ∷ [])
     ∙ ap (λ l. sign_of (negated_of o.first) (operand_of o.first) ++ l)
-      (flat_map-append pieces_of_link o.rest (make_link op (make_signed b e) ∷ [])
-      ∙ ap (λ l. flat_map pieces_of_link o.rest ++ l)
-        (append-nil (pieces_of_link (make_link op (make_signed b e))) ∙ link_pieces op b e))
+    (flat_map-append pieces_of_link o.rest (make_link op (make_signed b e) ∷ [])
+    ∙ ap (λ l. flat_map pieces_of_link o.rest ++ l)
+    (append-nil (pieces_of_link (make_link op (make_signed b e))) ∙ link_pieces op b e))
     ∙ sym (append_assoc (sign_of (negated_of o.first) (operand_of o.first)) (flat_map pieces_of_link o.rest) (link_of op b e))
 
 -- a signed operand behind so many operators, whose deepest operand is so deep
@@ -171,10 +171,12 @@ module _ (limit : Option ℕ) (ts : Ts) (x : InfixTree) (here : Ts) (deep ops : 
   pub add_good : (op : QOpTree) (b : Bool) (e : OperandTree) → (facts_of_infix x).is_open ≡ false →
       (within operands (lowered limit ((ops + 1) + sign b))).Good e → Within limit (deep + ((ops + 1) + sign b)) →
       (lone : Bool) → (within (links lone) limit).Good (add x op b e, None)
-  add_good op b e shut good room lone = (infix_formed (add x op b e)
-      ∙ ap (λ h. pieces_formed h (chain_pieces (add x op b e))) (add_head x op b e)
-      ∙ ap (pieces_formed (links_head (x, None))) (add_pieces x op b e) ∙ formed b good,
-      subst (Within limit) (sym deeper) (bound b good room))
+  add_good op b e shut good room lone = (
+    infix_formed (add x op b e)
+        ∙ ap (λ h. pieces_formed h (chain_pieces (add x op b e))) (add_head x op b e)
+        ∙ ap (pieces_formed (links_head (x, None))) (add_pieces x op b e) ∙ formed b good,
+    subst (Within limit) (sym deeper) (bound b good room),
+  )
     where
       last_shut : maybe_open (last_maybe (links_head (x, None)) (chain_pieces x)) ≡ false
       last_shut = let last = infix_last x in ap maybe_open last.1 ∙ last.2 ∙ shut
@@ -187,7 +189,7 @@ module _ (limit : Option ℕ) (ts : Ts) (x : InfixTree) (here : Ts) (deep ops : 
       deeper =
           infix_deep (add x op b e)
           ∙ ap (λ h. max (maybe_deep h) (deepest (map piece_deep (chain_pieces (add x op b e))))
-            + length (chain_pieces (add x op b e))) (add_head x op b e)
+          + length (chain_pieces (add x op b e))) (add_head x op b e)
           ∙ ap (λ l. max (maybe_deep (links_head (x, None))) (deepest (map piece_deep l)) + length l) (add_pieces x op b e)
           ∙ total b
         where
@@ -195,7 +197,7 @@ module _ (limit : Option ℕ) (ts : Ts) (x : InfixTree) (here : Ts) (deep ops : 
               + length (chain_pieces x ++ link_of op b e) ≡ max deep (depth_of_operand e) + ((ops + 1) + sign b)
           total true =
               let two = ap (λ l. deepest (map piece_deep l)) (append_assoc (chain_pieces x) ((op, None) ∷ [])
-                  ((q.Sym minus, Some e) ∷ [])) in
+              ((q.Sym minus, Some e) ∷ [])) in
               omega (
                 arith,
                 two,
@@ -231,8 +233,8 @@ module _ (limit : Option ℕ) (ts : Ts) (x : InfixTree) (here : Ts) (deep ops : 
           (base.0, tt, placed 0 (chain_pieces x)) last_shut (good.0, tt)).0
       formed true good =
           ap (pieces_formed (links_head (x, None)))
-            (sym (append_assoc (chain_pieces x) ((op, None) ∷ []) ((q.Sym minus, Some e) ∷ [])))
+          (sym (append_assoc (chain_pieces x) ((op, None) ∷ []) ((q.Sym minus, Some e) ∷ [])))
           ∙ (pieces_more None (links_head (x, None)) (chain_pieces x ++ (op, None) ∷ []) (q.Sym minus, Some e)
-            (pieces_more None (links_head (x, None)) (chain_pieces x) (op, None)
-            (base.0, tt, placed 0 (chain_pieces x)) last_shut (refl, tt))
-            (ap maybe_open (last_more (links_head (x, None)) (chain_pieces x) (op, None))) (good.0, tt)).0
+          (pieces_more None (links_head (x, None)) (chain_pieces x) (op, None)
+          (base.0, tt, placed 0 (chain_pieces x)) last_shut (refl, tt))
+          (ap maybe_open (last_more (links_head (x, None)) (chain_pieces x) (op, None))) (good.0, tt)).0

@@ -116,10 +116,10 @@ module _ (lone : Bool) (limit : Option ℕ) where
           plain_at x' (flat_map piece_tokens rest ++ after) (sym cut.1) found.0 found.1 le
       go more beyond at e (signed op' x' rest is le) =
           let cut = split op' None ((q.Sym minus, Some x') ∷ rest)
-              (e ∙ ap (λ l. flat_map piece_tokens l ++ after) is) in
+          (e ∙ ap (λ l. flat_map piece_tokens l ++ after) is) in
           let found = item (ps ++ (op', None) ∷ []) (q.Sym minus) x' rest (ops + 1)
-              (omega (arith, length-append ps ((op', None) ∷ []), long))
-              (at ∙ ap (λ l. ps ++ l) is ∙ sym (append_assoc ps ((op', None) ∷ []) ((q.Sym minus, Some x') ∷ rest))) in
+          (omega (arith, length-append ps ((op', None) ∷ []), long))
+          (at ∙ ap (λ l. ps ++ l) is ∙ sym (append_assoc ps ((op', None) ∷ []) ((q.Sym minus, Some x') ∷ rest))) in
           let two : (ops + 1) + 1 ≡ ops + 2 = omega arith in
           signed_at x' (flat_map piece_tokens rest ++ after)
           (sym cut.1 ∙ append_assoc (t.VarSym minus ∷ spelling_operand x') (flat_map piece_tokens rest) after)

@@ -48,20 +48,22 @@ use Rattle.hs_expression_forms.specs.Expressions.{applies, lambdas, lets, ifs, c
 pub apat_depth_is : (x : APatTree) → (extent_of_apat x).depth ≡ depth_of_apat x
 apat_depth_is x =
     let l : extent_of_lpat (lp.APat x) ≡ lpat_extent (LPatTree-F.APat (extent_of_apat x)) =
-        ap extent_of_lpat (sym (lp.rolls-APat x))
-        ∙ fold-roll-LPatTree Extent Extent Extent Extent apat_extent lpat_extent op_lpat_extent pat_extent
-        (LPatTree-F.APat x) in
-    let p : extent_of_pat (make_pat (lp.APat x) []) ≡ pat_extent (record { first = extent_of_lpat (lp.APat x);
-        rest = [] }) =
-        fold-roll-PatTree Extent Extent Extent Extent apat_extent lpat_extent op_lpat_extent pat_extent
-        (record { first = lp.APat x; rest = [] }) in
+    ap extent_of_lpat (sym (lp.rolls-APat x))
+    ∙ fold-roll-LPatTree Extent Extent Extent Extent apat_extent lpat_extent op_lpat_extent pat_extent
+    (LPatTree-F.APat x) in
+    let p : extent_of_pat (make_pat (lp.APat x) []) ≡ pat_extent (record {
+      first = extent_of_lpat (lp.APat x);
+      rest = [];
+    }) =
+    fold-roll-PatTree Extent Extent Extent Extent apat_extent lpat_extent op_lpat_extent pat_extent
+    (record { first = lp.APat x; rest = [] }) in
     let e : (extent_of_pat (make_pat (lp.APat x) [])).depth ≡ max (extent_of_lpat (lp.APat x)).depth 0 + 0 =
-        ap depth_of p in
+    ap depth_of p in
     let e' : (extent_of_lpat (lp.APat x)).depth ≡ (extent_of_apat x).depth = ap depth_of l in
     let f : depth_of_pat (make_pat (lp.APat x) []) ≡ max (depth_of_lpat (lp.APat x)) 0 + 0 =
-        pat_deep (record { first = lp.APat x; rest = [] }) in
+    pat_deep (record { first = lp.APat x; rest = [] }) in
     let f' : depth_of_lpat (lp.APat x) ≡ depth_of_apat x =
-        ap depth_of_lpat (sym (lp.rolls-APat x)) ∙ lpat_deep (LPatTree-F.APat x) in
+    ap depth_of_lpat (sym (lp.rolls-APat x)) ∙ lpat_deep (LPatTree-F.APat x) in
     omega (arith, e, e', f, f', pat_depth_is (make_pat (lp.APat x) []))
 
 pub deepest_apats : (xs : List APatTree) →
@@ -107,7 +109,7 @@ lambda_deep p =
     ∙ ap depth_of (operand_folded extent_algebra (OperandTree-F.Lambda l))
     ∙ ap depth_of (lambda_folded extent_algebra (record { first = p.0.0; rest = p.0.1; body = p.1 }))
     ∙ ap (λ n. max (max n (deepest (map depth_of (map extent_of_apat p.0.1)))) (depth_of_exp p.1) + 1)
-      (apat_depth_is p.0.0)
+    (apat_depth_is p.0.0)
     ∙ ap (λ n. max (max (depth_of_apat p.0.0) n) (depth_of_exp p.1) + 1) (deepest_apats p.0.1)
 
 abbrev pub Let : Type 0
@@ -123,7 +125,7 @@ let_spelled p =
     ap spelling_operand (sym (d.rolls-Let l)) ∙ operand_folded token_algebra (OperandTree-F.Let l)
     ∙ let_folded token_algebra (record { decls = p.0; body = p.1 })
     ∙ ap (λ ts. t.Word w.Let ∷ ts)
-      (sym (append_assoc (spelling_decl_block p.0) (t.Word w.In ∷ []) (spelling_exp p.1)))
+    (sym (append_assoc (spelling_decl_block p.0) (t.Word w.In ∷ []) (spelling_exp p.1)))
 
 pub let_facts : (p : Let) → facts_of_operand (make_let p) ≡ opened (facts_of_decl_block p.0).good (facts_of_exp p.1)
 unfolding fact_algebra
@@ -153,9 +155,9 @@ if_spelled p =
     ap spelling_operand (sym (d.rolls-If l)) ∙ operand_folded token_algebra (OperandTree-F.If l)
     ∙ if_folded token_algebra (record { test = p.0; then_part = p.1.0; else_part = p.1.1 })
     ∙ ap (λ ts. t.Word w.If ∷ (spelling_exp p.0 ++ t.Word w.Then ∷ ts))
-      (sym (append_assoc (spelling_exp p.1.0) (t.Word w.Else ∷ []) (spelling_exp p.1.1)))
+    (sym (append_assoc (spelling_exp p.1.0) (t.Word w.Else ∷ []) (spelling_exp p.1.1)))
     ∙ ap (λ ts. t.Word w.If ∷ ts) (sym (append_assoc (spelling_exp p.0) (t.Word w.Then ∷ [])
-      ((spelling_exp p.1.0 ++ t.Word w.Else ∷ []) ++ spelling_exp p.1.1)))
+    ((spelling_exp p.1.0 ++ t.Word w.Else ∷ []) ++ spelling_exp p.1.1)))
 
 -- three tests in either order
 and_regroup : (a b c : Bool) → (a && b) && c ≡ a && (b && c)
@@ -178,9 +180,9 @@ unfolding extent_algebra
 if_deep p =
     let l = roll-IfTree (record { test = p.0; then_part = p.1.0; else_part = p.1.1 }) in
     let e : depth_of_operand (make_if p) ≡ max (max (depth_of_exp p.0) (depth_of_exp p.1.0)) (depth_of_exp p.1.1) + 1 =
-        ap (λ x. depth_of_operand x) (sym (d.rolls-If l))
-        ∙ ap depth_of (operand_folded extent_algebra (OperandTree-F.If l))
-        ∙ ap depth_of (if_folded extent_algebra (record { test = p.0; then_part = p.1.0; else_part = p.1.1 })) in
+    ap (λ x. depth_of_operand x) (sym (d.rolls-If l))
+    ∙ ap depth_of (operand_folded extent_algebra (OperandTree-F.If l))
+    ∙ ap depth_of (if_folded extent_algebra (record { test = p.0; then_part = p.1.0; else_part = p.1.1 })) in
     omega (arith, e)
 
 abbrev pub Case : Type 0
@@ -196,7 +198,7 @@ case_spelled p =
     ap spelling_operand (sym (d.rolls-Case l)) ∙ operand_folded token_algebra (OperandTree-F.Case l)
     ∙ case_folded token_algebra (record { scrutinee = p.0; alts = p.1 })
     ∙ ap (λ ts. t.Word w.Case ∷ ts)
-      (sym (append_assoc (spelling_exp p.0) (t.Word w.Of ∷ []) (spelling_alt_block p.1)))
+    (sym (append_assoc (spelling_exp p.0) (t.Word w.Of ∷ []) (spelling_alt_block p.1)))
 
 pub case_facts : (p : Case) → facts_of_operand (make_case p) ≡ closed (cases.formed p)
 unfolding fact_algebra

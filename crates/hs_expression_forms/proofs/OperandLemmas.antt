@@ -87,31 +87,31 @@ operand_layer (OperandTree-F.Lambda part) =
     let o = out-LambdaTree part in
     let p : Lambda = ((o.first, o.rest), o.body) in
     let is : roll-OperandTree (OperandTree-F.Lambda part) ≡ make_lambda p =
-        d.rolls-Lambda part ∙ ap d.Lambda (sym (roll-out-LambdaTree part)) in
+    d.rolls-Lambda part ∙ ap d.Lambda (sym (roll-out-LambdaTree part)) in
     record { class = 1; of = (p, is); first = (_, _, ap spelling_operand is ∙ lambda_spelled p, refl) }
 operand_layer (OperandTree-F.Let part) =
     let o = out-LetTree part in
     let p : Let = (o.decls, o.body) in
     let is : roll-OperandTree (OperandTree-F.Let part) ≡ make_let p =
-        d.rolls-Let part ∙ ap d.Let (sym (roll-out-LetTree part)) in
+    d.rolls-Let part ∙ ap d.Let (sym (roll-out-LetTree part)) in
     record { class = 2; of = (p, is); first = (_, _, ap spelling_operand is ∙ let_spelled p, refl) }
 operand_layer (OperandTree-F.If part) =
     let o = out-IfTree part in
     let p : If = (o.test, (o.then_part, o.else_part)) in
     let is : roll-OperandTree (OperandTree-F.If part) ≡ make_if p =
-        d.rolls-If part ∙ ap d.If (sym (roll-out-IfTree part)) in
+    d.rolls-If part ∙ ap d.If (sym (roll-out-IfTree part)) in
     record { class = 3; of = (p, is); first = (_, _, ap spelling_operand is ∙ if_spelled p, refl) }
 operand_layer (OperandTree-F.Case part) =
     let o = out-CaseTree part in
     let p : Case = (o.scrutinee, o.alts) in
     let is : roll-OperandTree (OperandTree-F.Case part) ≡ make_case p =
-        d.rolls-Case part ∙ ap d.Case (sym (roll-out-CaseTree part)) in
+    d.rolls-Case part ∙ ap d.Case (sym (roll-out-CaseTree part)) in
     record { class = 4; of = (p, is); first = (_, _, ap spelling_operand is ∙ case_spelled p, refl) }
 operand_layer (OperandTree-F.Apply f xs) =
     let p : Apply = (f, xs) in
     let is : roll-OperandTree (OperandTree-F.Apply f xs) ≡ make_apply p = d.rolls-Apply f xs in
     let spelled : spelling_operand (roll-OperandTree (OperandTree-F.Apply f xs)) ≡ applies.tokens p =
-        ap spelling_operand is ∙ apply_spelled p in
+    ap spelling_operand is ∙ apply_spelled p in
     let first = aexp_first (applies.tokens p) (begins_append starts_aexp (spelling_aexp f) _ (aexp_starts f)) in
     record { class = 5; of = (p, is); first = (first.0, first.1, spelled ∙ first.2, first.3) }
 
@@ -123,7 +123,7 @@ operand_only : (n : ℕ) (x : OperandTree) (after : Ts) → operand_test n (spel
 operand_only n x after e =
     let v = operand_view x in
     let at : nat_eq (operand_class v.first.0) n ≡ true =
-        ap (λ ts. operand_test n (ts ++ after)) (sym v.first.2) ∙ e in
+    ap (λ ts. operand_test n (ts ++ after)) (sym v.first.2) ∙ e in
     let same : operand_class v.first.0 ≡ n = grind (arith, nat_tests) in
     subst (OperandOf x) (sym v.first.3 ∙ same) v.of
 

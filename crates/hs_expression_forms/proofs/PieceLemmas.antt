@@ -126,8 +126,11 @@ module _ (limit : Option ℕ) where
     laws = record {
       spelled = λ h ps. refl;
       taken = λ x. (x.0, x.1, refl);
-      good_head = λ h ps good. (and_left (maybe_formed h) _ (and_left (maybe_formed h && all_of (map piece_formed ps))
-          _ good.0), good.1);
+      good_head = λ h ps good. (
+        and_left (maybe_formed h) _ (and_left (maybe_formed h && all_of (map piece_formed ps))
+            _ good.0),
+        good.1,
+      );
       good_item = λ h ps p more good. (
         all_here piece_formed ps p more (and_right (maybe_formed h) _
             (and_left (maybe_formed h && all_of (map piece_formed (ps ++ p ∷ more))) _ good.0)),

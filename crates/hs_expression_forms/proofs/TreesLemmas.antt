@@ -126,8 +126,14 @@ module _ {K A B : Type 0} (a : Trees K A) (b : Trees K B) (starter : K → Bool)
       (λ before bad split q. refused before bad
       (pair_first (within a limit) (within b limit) (λ x y. Unit {0}) starter f.starts (λ x y t u h. f.apart x t h)
       (completes_pair (within a limit) (within b limit) (λ x y. Unit {0}) starter f.starts
-      (λ x y t u h. f.apart x t h) f.least (λ x good. ((f.least_formed, subst (Within limit) (sym f.least_deep)
-      (within_zero limit)), tt))) before bad q)) r
+      (λ x y t u h. f.apart x t h) f.least (λ x good. (
+        (
+          f.least_formed,
+          subst (Within limit) (sym f.least_deep)
+              (within_zero limit),
+        ),
+        tt,
+      ))) before bad q)) r
 
   pub row_second : (ts : List K) (x : A) (here : List K) (m : ℕ) (e : Fault) → Took a limit ts x here m →
       Failed b limit here e → Failed (row a b) limit ts e
@@ -256,8 +262,8 @@ module _ {K A B : Type 0} (small : Trees K A) (big : Trees K B) (into : A → B)
       good = back_embeds x acc.reads.good;
       only = λ s other after same good quiet e.
           let found = acc.reads.only s (into other) after same (there_embeds other good)
-              (begins_within (small.extends other) (big.extends (into other)) after (m.extends other) quiet)
-              (ap (λ l. l ++ s) (m.tokens x) ∙ e ∙ ap (λ l. l ++ after) (sym (m.tokens other))) in
+          (begins_within (small.extends other) (big.extends (into other)) after (m.extends other) quiet)
+          (ap (λ l. l ++ s) (m.tokens x) ∙ e ∙ ap (λ l. l ++ after) (sym (m.tokens other))) in
           (m.one other x found.0, found.1);
     };
     measured_is = acc.measured_is ∙ m.deep x;
@@ -269,9 +275,12 @@ module _ {K A B : Type 0} (small : Trees K A) (big : Trees K B) (into : A → B)
   embeds_failed back ts e r =
       fails_after (within small limit) (within big limit) [] ts ts e refl
       (λ before bad split q. record {
-        begun = (let x = back q.begun.1 q.begun.2.0 in
-            (q.begun.0, x.0, back_embeds x.0 (subst (within big limit).Good x.1 q.begun.2),
-            q.begun.3 ∙ ap big.tokens x.1 ∙ m.tokens x.0));
+        begun = (let x = back q.begun.1 q.begun.2.0 in (
+          q.begun.0,
+          x.0,
+          back_embeds x.0 (subst (within big limit).Good x.1 q.begun.2),
+          q.begun.3 ∙ ap big.tokens x.1 ∙ m.tokens x.0,
+        ));
         never = λ s other after same good quiet e.
             q.never s (into other) after same (there_embeds other good)
             (begins_within (small.extends other) (big.extends (into other)) after (m.extends other) quiet)
