@@ -1,0 +1,4 @@
+pub mod Trees
+pub mod Expressions
+pub mod Links
+pub mod Fronts
