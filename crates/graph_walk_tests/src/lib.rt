@@ -1,0 +1,5 @@
+//! Worked values of `graph_walk`.
+#![tactic(auto)]
+
+#[cfg(test)]
+mod tests;
