@@ -1,0 +1,5 @@
+//! Worked values of `haskell_module`.
+#![tactic(auto)]
+
+#[cfg(test)]
+mod tests;
