@@ -24,6 +24,7 @@ use Rattle.kind_check.specs.declared.scope.Known.{Known}
 use Rattle.kind_check.specs.declared.scope.Sense.{Sense}
 use Rattle.kind_check.specs.declared.scope.Sense.TheVariants.{SynonymOf, TypeOf, Other}
 use Rattle.kind_check.specs.Answers.{known_synonyms, sense_synonym}
+use Rattle.type_expand.specs.Lawful.{names_of}
 use Rattle.type_expand.specs.Expanding.{stacked_types, CanExpand, CanNotExpand, ExpandsFor}
 use Rattle.type_expand.proofs.TypeLemmas.{type_app, stacked_types-push}
 
@@ -258,14 +259,11 @@ too_few S ty b n k p fuel args e q l c =
 
 -- ---- all names are enough
 
-abbrev pub names_of : List Known → List OrigName
-names_of es = map (λ e. e.name) es
-
 count-names : (es : List Known) → count (names_of es) ≡ length es
 count-names [] = refl
 count-names (e ∷ es) = ap suc (count-names es)
 
-synonyms_named : (es : List Known) (n : OrigName) → IsSome (known_synonyms es n) → Among n (names_of es)
+pub synonyms_named : (es : List Known) (n : OrigName) → IsSome (known_synonyms es n) → Among n (names_of es)
 synonyms_named [] n h = absurd (true≢false (sym h))
 synonyms_named (e ∷ es) n h = go (same_original e.name n) refl (λ k. synonyms_named es n k)
   where

@@ -36,8 +36,8 @@ impl From<AllocError> for Stuck {
     }
 }
 
-// The first meaning of a name.
-fn sense_of<'a>(known: &'a [Known], name: &OrigName) -> Option<&'a Sense>
+/// The first meaning of a name.
+pub fn sense_of<'a>(known: &'a [Known], name: &OrigName) -> Option<&'a Sense>
     ensures some { IfSome result (λ s. known_synonyms known.now name.now ≡ sense_synonym s.now) }
     ensures none { IfNone result (known_synonyms known.now name.now ≡ None) }
 {
@@ -50,9 +50,9 @@ fn sense_of<'a>(known: &'a [Known], name: &OrigName) -> Option<&'a Sense>
     None
 }
 
-// The expansion of a type applied to arguments that are expanded, where no more than so many synonyms lead from one to
-// another.
-fn expanded(alloc: Global, ty: &Ty, args: Tys, known: &[Known], fuel: u64) -> Result<Ty, Stuck>
+/// The expansion of a type applied to arguments that are expanded, where no more than so many synonyms lead from one to
+/// another.
+pub fn expanded(alloc: Global, ty: &Ty, args: Tys, known: &[Known], fuel: u64) -> Result<Ty, Stuck>
     ensures ok { IfOk result (λ t. ExpandsFor (known_synonyms known.now) (type_term ty.now) (stacked_types args) (type_term t)) }
     ensures none { IfErr result (λ e. e ≡ Stuck.Synonym → CanNotExpand (known_synonyms known.now) (type_term ty.now) (count args) fuel) }
 {
