@@ -150,15 +150,62 @@ pub fn decls_of(alloc: Global, text: &[u8]) -> Result<GroupDecls, AllocError> {
     Ok(decls)
 }
 
-// `M**>` is a type of kind `* -> *`, `S2***>>` a synonym with two parameters.
+fn put_part(alloc: Global, letter: u8, types: &mut Vec<Ty>) -> Result<(), AllocError> {
+    let next = match letter {
+        b'@' => match (types.pop(), types.pop()) {
+            (Some(arg), Some(fun)) => Ty::App {
+                fun: Boxed::new(alloc, fun)?,
+                arg: Boxed::new(alloc, arg)?,
+            },
+            _ => return Ok(()),
+        },
+        b'a'..=b'z' => Ty::Var {
+            index: u64::from(letter.saturating_sub(b'a')),
+        },
+        _ => Ty::Con {
+            name: original(alloc, letter)?,
+            kind: Kind::Star,
+        },
+    };
+    types.push(next)?;
+    Ok(())
+}
+
+/// The resolved type of a text, in which `a` is the variable 0; that variable where there is none.
+pub fn resolved_of(alloc: Global, text: &[u8]) -> Result<Ty, AllocError> {
+    let mut types = Vec::new(alloc);
+    for letter in text {
+        put_part(alloc, *letter, &mut types)?;
+    }
+    Ok(types.pop().unwrap_or(Ty::Var { index: 0 }))
+}
+
+/// Writes a resolved type as it is read.
+pub fn show_type(ty: &Ty, out: &mut Vec<u8>) -> Result<(), AllocError> {
+    match ty {
+        Ty::Var { index } => out.push(b'a'.saturating_add((*index % 26) as u8))?,
+        Ty::Con { name, .. } => out.extend_from_slice(name.occ.as_bytes())?,
+        Ty::App { fun, arg } => {
+            show_type(fun.get(), out)?;
+            show_type(arg.get(), out)?;
+            out.push(b'@')?;
+        }
+    }
+    Ok(())
+}
+
+// `M**>` is a type of kind `* -> *`, `S2***>>=ab@` a synonym with two parameters and its body.
 fn known_of(alloc: Global, text: &[u8]) -> Result<Option<Known>, AllocError> {
-    match text {
+    let mut halves = text.split(|b| *b == b'=');
+    let head = halves.next().unwrap_or(b"");
+    let body = resolved_of(alloc, halves.next().unwrap_or(b""))?;
+    match head {
         [name, params @ b'0'..=b'9', kind @ ..] => Ok(Some(Known {
             name: original(alloc, *name)?,
             sense: Sense::SynonymOf {
                 kind: kind_of(alloc, kind)?,
                 params: u64::from(params.saturating_sub(b'0')),
-                body: Ty::Var { index: 0 },
+                body,
             },
         })),
         [name, kind @ ..] => Ok(Some(Known {

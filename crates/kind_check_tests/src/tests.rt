@@ -1,15 +1,20 @@
 //! Each case of the tables has its answer.
-use crate::reading::{decls_of, names_of, show, type_of};
-use crate::tables::{GROUPS, TYPES};
+use crate::reading::{decls_of, names_of, resolved_of, show, show_type, type_of};
+use crate::tables::{EXPANSIONS, GROUPS, LAWFUL, MODULES, TYPES};
 use kind_check::{GroupError, KindEnv, TypeError, TypeGroup, kind_of_type, kinds_of};
 use std::alloc::{AllocError, Global};
 use std::test::Fail;
+use type_expand::{ExpandError, expand, first_unlawful};
+use type_groups::{ModuleKinds, kinds_of_module};
 
 /// What is asked of each case of a table.
 #[derive(Clone, Copy, Debug)]
 enum Asked {
     Groups,
     Types,
+    Modules,
+    Expansions,
+    Lawful,
 }
 
 fn group_answer(alloc: Global, text: &[u8], env: &KindEnv) -> Result<Vec<u8>, AllocError> {
@@ -45,6 +50,52 @@ fn type_answer(alloc: Global, text: &[u8], env: &KindEnv) -> Result<Vec<u8>, All
     Ok(out)
 }
 
+fn show_module(module: &ModuleKinds, out: &mut Vec<u8>) -> Result<(), AllocError> {
+    for (group, answer) in module.groups.as_slice().iter().zip(module.kinds.as_slice()) {
+        out.push(b' ')?;
+        for (decl, kind) in group.decls.as_slice().iter().zip(answer.kinds.as_slice()) {
+            out.extend_from_slice(decl.name.occ.as_bytes())?;
+            show(kind, out)?;
+        }
+    }
+    Ok(())
+}
+
+fn module_answer(alloc: Global, text: &[u8], env: KindEnv) -> Result<Vec<u8>, AllocError> {
+    let mut out = Vec::new(alloc);
+    let decls = decls_of(alloc, text)?;
+    match kinds_of_module(alloc, &decls, env) {
+        Ok(module) => show_module(&module, &mut out)?,
+        Err(GroupError::Kind { occ }) => {
+            out.push(b'!')?;
+            out.extend_from_slice(occ.as_bytes())?;
+        }
+        Err(GroupError::NoMemory) => return Err(AllocError),
+    }
+    Ok(out)
+}
+
+fn expansion_answer(alloc: Global, text: &[u8], env: &KindEnv) -> Result<Vec<u8>, AllocError> {
+    let mut out = Vec::new(alloc);
+    let ty = resolved_of(alloc, text)?;
+    match expand(alloc, &ty, env) {
+        Ok(whole) => show_type(&whole, &mut out)?,
+        Err(ExpandError::SynonymUse) => out.push(b'?')?,
+        Err(ExpandError::TypeDepth) => out.push(b'^')?,
+        Err(ExpandError::NoMemory) => return Err(AllocError),
+    }
+    Ok(out)
+}
+
+fn lawful_answer(alloc: Global, env: &KindEnv) -> Result<Vec<u8>, AllocError> {
+    let mut out = Vec::new(alloc);
+    match first_unlawful(alloc, env)? {
+        Some(index) => out.push(b'0'.saturating_add((index % 10) as u8))?,
+        None => out.push(b'-')?,
+    }
+    Ok(out)
+}
+
 /// Whether a case has the answer that it wants.
 fn is_right(alloc: Global, asked: Asked, line: &[u8]) -> Result<bool, AllocError> {
     let mut parts = line.split(|b| *b == b'|');
@@ -56,6 +107,9 @@ fn is_right(alloc: Global, asked: Asked, line: &[u8]) -> Result<bool, AllocError
     let answer = match asked {
         Asked::Groups => group_answer(alloc, text, &env)?,
         Asked::Types => type_answer(alloc, text, &env)?,
+        Asked::Modules => module_answer(alloc, text, env)?,
+        Asked::Expansions => expansion_answer(alloc, text, &env)?,
+        Asked::Lawful => lawful_answer(alloc, &env)?,
     };
     Ok(answer.as_slice() == want)
 }
@@ -81,5 +135,49 @@ fn groups_have_their_kinds(rt: HostRuntime) -> Result<(), Fail> {
 #[test]
 fn written_types_have_their_kinds(rt: HostRuntime) -> Result<(), Fail> {
     assert_eq!(rt; first_wrong(rt.alloc(), Asked::Types, TYPES)?, 0);
+    Ok(())
+}
+
+#[test]
+fn modules_have_their_kinds(rt: HostRuntime) -> Result<(), Fail> {
+    assert_eq!(rt; first_wrong(rt.alloc(), Asked::Modules, MODULES)?, 0);
+    Ok(())
+}
+
+#[test]
+fn types_expand(rt: HostRuntime) -> Result<(), Fail> {
+    assert_eq!(rt; first_wrong(rt.alloc(), Asked::Expansions, EXPANSIONS)?, 0);
+    Ok(())
+}
+
+#[test]
+fn unlawful_synonyms_are_found(rt: HostRuntime) -> Result<(), Fail> {
+    assert_eq!(rt; first_wrong(rt.alloc(), Asked::Lawful, LAWFUL)?, 0);
+    Ok(())
+}
+
+/// A type in which so many applications stand in one another.
+fn deep(alloc: Global, depth: usize) -> Result<Vec<u8>, AllocError> {
+    let mut text = Vec::new(alloc);
+    for _ in 1..depth {
+        text.push(b'L')?;
+    }
+    text.push(b'I')?;
+    for _ in 1..depth {
+        text.push(b'@')?;
+    }
+    Ok(text)
+}
+
+#[test]
+fn a_type_has_at_most_1000_levels(rt: HostRuntime) -> Result<(), Fail> {
+    let alloc = rt.alloc();
+    let env = KindEnv {
+        names: names_of(alloc, b"L**>")?,
+    };
+    let high = resolved_of(alloc, &deep(alloc, 1_000)?)?;
+    assert!(rt; expand(alloc, &high, &env).is_ok());
+    let higher = resolved_of(alloc, &deep(alloc, 1_001)?)?;
+    assert!(rt; matches!(expand(alloc, &higher, &env), Err(ExpandError::TypeDepth)));
     Ok(())
 }

@@ -24,7 +24,8 @@ use Rattle.kind_check.specs.declared.scope.Known.{Known}
 use Rattle.kind_check.specs.declared.scope.Sense.{Sense}
 use Rattle.kind_check.specs.declared.scope.Sense.TheVariants.{SynonymOf, TypeOf, Other}
 use Rattle.kind_check.specs.Answers.{known_synonyms, sense_synonym}
-use Rattle.type_expand.specs.Expanding.{stacked_types, CanExpand, ExpandsFor}
+use Rattle.type_expand.specs.Lawful.{names_of}
+use Rattle.type_expand.specs.Expanding.{stacked_types, CanExpand, CanNotExpand, ExpandsFor}
 use Rattle.type_expand.proofs.TypeLemmas.{type_app, stacked_types-push}
 
 -- ---- the parts of a type that expands
@@ -184,19 +185,17 @@ pub synonym_is : (o : Option Synonym) (sense : Sense) (k : Kind) (p : ℕ) (b : 
     → sense ≡ SynonymOf k p b → o ≡ Some (record { params = p; body = type_term b })
 synonym_is o sense k p b e f = e ∙ ap sense_synonym f
 
-pub done_synonym : (S : Synonyms) (ty t whole : Ty) (n : OrigName) (k : Kind) (p fuel : ℕ) (b : TypeTerm)
+pub done_synonym : (S : Synonyms) (ty t whole : Ty) (n : OrigName) (k : Kind) (p : ℕ) (b : TypeTerm)
     (args : List Ty) → ty ≡ Con n k → S n ≡ Some (record { params = p; body = b })
-    → CanExpand S (type_term ty) (count args) fuel → Expands S b (type_term whole)
+    → p ≤ length args → Expands S b (type_term whole)
     → type_term t
     ≡ applied_to (applied (listed (take p (stacked_types args))) (type_term whole)) (drop p (stacked_types args))
     → ExpandsFor S (type_term ty) (stacked_types args) (type_term t)
-done_synonym S ty t whole n k p fuel b args e q c h g =
-    let full = (subst (λ x. CanExpand S (type_term x) (count args) fuel) e c).full in
-    let l = full (record { params = p; body = b }) q in
+done_synonym S ty t whole n k p b args e q l h g =
     subst (λ x. ExpandsFor S (type_term x) (stacked_types args) (type_term t)) (sym e)
     (subst (ExpandsFor S (con n) (stacked_types args)) (sym g)
     (for_synonym S n (record { params = p; body = b }) (stacked_types args) (type_term whole) q
-    (subst (λ m. p ≤ m) (sym (count-stacked args)) l) h))
+    (subst (λ m. p ≤ m) (sym (count-stacked args ∙ count-length args)) l) h))
 
 pub done_app : (S : Synonyms) (ty f a g b own : Ty) (args none' more : List Ty) (w : TypeTerm) → ty ≡ App f a → g ≡ f
     → b ≡ a → none' ≡ [] → more ≡ args ++ own ∷ []
@@ -242,23 +241,29 @@ owe_body S ty b n k p fuel args none' e z q c =
     (can_body S n (record { params = p; body = type_term b }) (count args) fuel q
     (subst (λ x. CanExpand S (type_term x) (count args) fuel) e c))
 
-pub owe_fuel : (S : Synonyms) (ty b : Ty) (n : OrigName) (k : Kind) (p fuel : ℕ) (args : List Ty) → ty ≡ Con n k
-    → S n ≡ Some (record { params = p; body = type_term b })
-    → CanExpand S (type_term ty) (count args) fuel → 1 ≤ fuel
-owe_fuel S ty b n k p fuel args e q c =
-    some_fuel S n (record { params = p; body = type_term b }) (count args) fuel q
-    (subst (λ x. CanExpand S (type_term x) (count args) fuel) e c)
+-- ---- where it stops, there is no expansion
+
+pub no_fuel : (S : Synonyms) (ty b : Ty) (n : OrigName) (k : Kind) (p fuel given : ℕ) → ty ≡ Con n k
+    → S n ≡ Some (record { params = p; body = type_term b }) → fuel ≡ 0 → CanNotExpand S (type_term ty) given fuel
+no_fuel S ty b n k p fuel given e q z c =
+    let l = some_fuel S n (record { params = p; body = type_term b }) given fuel q
+    (subst (λ x. CanExpand S (type_term x) given fuel) e c) in absurd (omega (arith, l, z))
+
+pub too_few : (S : Synonyms) (ty b : Ty) (n : OrigName) (k : Kind) (p fuel : ℕ) (args : List Ty) → ty ≡ Con n k
+    → S n ≡ Some (record { params = p; body = type_term b }) → length args < p
+    → CanNotExpand S (type_term ty) (count args) fuel
+too_few S ty b n k p fuel args e q l c =
+    let m = (subst (λ x. CanExpand S (type_term x) (count args) fuel) e c).full
+    (record { params = p; body = type_term b }) q in
+    let s = count-length args in absurd (omega (arith, l, m, s))
 
 -- ---- all names are enough
-
-abbrev pub names_of : List Known → List OrigName
-names_of es = map (λ e. e.name) es
 
 count-names : (es : List Known) → count (names_of es) ≡ length es
 count-names [] = refl
 count-names (e ∷ es) = ap suc (count-names es)
 
-synonyms_named : (es : List Known) (n : OrigName) → IsSome (known_synonyms es n) → Among n (names_of es)
+pub synonyms_named : (es : List Known) (n : OrigName) → IsSome (known_synonyms es n) → Among n (names_of es)
 synonyms_named [] n h = absurd (true≢false (sym h))
 synonyms_named (e ∷ es) n h = go (same_original e.name n) refl (λ k. synonyms_named es n k)
   where

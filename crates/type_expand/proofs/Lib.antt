@@ -1,3 +1,4 @@
 pub mod TypeLemmas
 pub mod ExpandLemmas
 pub mod SizeLemmas
+pub mod LawfulLemmas

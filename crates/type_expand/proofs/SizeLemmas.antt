@@ -80,3 +80,7 @@ body_smaller es n k p fuel ty b e q l =
     let s : size (type_term b) ≤ sizes es = subst (λ o. synonym_size o ≤ sizes es) q h in
     subst (λ t. measure es (type_term b) (fuel - 1) < measure es (type_term t) fuel) (sym e)
     (body_less (sizes es) (size (type_term b)) 0 fuel s l)
+
+pub some : (n : ℕ) → (n ≡ 0 → ⊥) → 1 ≤ n
+some zero h = absurd (h refl)
+some (suc n) h = omega arith

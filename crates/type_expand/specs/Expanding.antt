@@ -5,8 +5,9 @@ use Rattle.bp_base.specs.declared.ty.OrigName.{OrigName}
 use Rattle.bp_base.specs.declared.ty.Ty.{Ty}
 use Rattle.hs_core.specs.Types.{TypeTerm, type_term, applied_to, depth, count}
 use Rattle.hs_core.specs.Expansion.{Synonym, Synonyms, Expands, ExpandEach, IsFullyApplied, IsMet, LeadsTo}
+use Rattle.hs_core.specs.Expansion.{IsExpandable}
 use Rattle.type_expand.specs.declared.replace.ExpandError.{ExpandError}
-use Rattle.type_expand.specs.declared.replace.ExpandError.TheVariants.{TypeDepth, NoMemory}
+use Rattle.type_expand.specs.declared.replace.ExpandError.TheVariants.{SynonymUse, TypeDepth, NoMemory}
 
 -- the types of a stack, the last one first
 abbrev pub stacked_types : List Ty → List TypeTerm
@@ -26,6 +27,9 @@ pub record CanExpand (S : Synonyms) (t : TypeTerm) (given fuel : ℕ) : Type 0 w
   pub few : count names ≤ fuel
   pub covers : (n : OrigName) → IsMet S t n → IsSome (S n) → Among n names
 
+abbrev pub CanNotExpand : Synonyms → TypeTerm → ℕ → ℕ → Type 0
+CanNotExpand S t given fuel = CanExpand S t given fuel → ⊥
+
 -- the type, applied to any types that these are expansions of, expands to this
 abbrev pub ExpandsFor : Synonyms → TypeTerm → List TypeTerm → TypeTerm → Type 0
 ExpandsFor S t us v = (ts : List TypeTerm) → ExpandEach S ts us → Expands S (applied_to t ts) v
@@ -34,7 +38,8 @@ ExpandsFor S t us v = (ts : List TypeTerm) → ExpandEach S ts us → Expands S 
 abbrev pub ExpandsWithin : Synonyms → TypeTerm → ℕ → TypeTerm → Type 0
 ExpandsWithin S t limit u = Expands S t u × (depth u ≤ limit)
 
--- the type expands, and its expansion is deeper than the limit
+-- the type has no expansion; or it has one, which is deeper than the limit
 abbrev pub IsExpandError : Synonyms → TypeTerm → ℕ → ExpandError → Type 0
+IsExpandError S t limit SynonymUse = IsExpandable S t → ⊥
 IsExpandError S t limit TypeDepth = (u : TypeTerm) × Expands S t u × (limit < depth u)
 IsExpandError S t limit NoMemory = Unit {0}

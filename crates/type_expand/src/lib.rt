@@ -2,6 +2,8 @@
 #![tactic(auto)]
 
 mod apply;
+mod lawful;
 mod replace;
 
+pub use lawful::first_unlawful;
 pub use replace::{ExpandError, expand};

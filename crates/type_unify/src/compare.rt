@@ -55,7 +55,8 @@ fn differ(one: &Cell, other: &Cell) -> Difference
     }
 }
 
-/// What the types of two numbers ask for. It takes no memory.
+/// What the types of two numbers ask for. It takes no memory. Equal numbers ask for nothing, so parts that two types share are not
+/// gone through.
 pub fn compare(
     cells: &[Cell],
     entries: &IndexMap<u64, usize>,
@@ -69,6 +70,9 @@ pub fn compare(
 {
     let one = walk(cells, entries, one);
     let other = walk(cells, entries, other);
+    if one == other {
+        return Difference::Same;
+    }
     let first = &cells[one];
     let second = &cells[other];
     match (flex_of(first), flex_of(second)) {

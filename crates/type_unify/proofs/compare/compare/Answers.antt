@@ -1,5 +1,13 @@
 use Rattle.type_unify.proofs.SeeingLemmas.{same_flexes, BindOf-two, BindOf-left, BindOf-right, Tells-nodes, IfNone-use}
+use Rattle.std.proofs.Common.{sym, ap, ◌∙◌}
+use Rattle.type_unify.specs.Types.{bare}
+use Rattle.type_unify.specs.Cells.{seen}
 use Rattle.type_unify.proofs.compare.compare.Goals as goal
+
+pub returns-then-one-other : goal.returns-then-one-other
+returns-then-one-other c =
+    ap bare (sym c.walk-one.ensures.same ∙ ap (seen c.args.cells.now c.args.entries.now.entries) c.if-one-other.true
+    ∙ c.walk-other.ensures.same)
 
 pub returns-then-id-last : goal.returns-then-id-last
 returns-then-id-last c =

@@ -1,0 +1,11 @@
+use Rattle.std.proofs.Common.{◌≡◌, List, take}
+use Rattle.std.specs.Prelude.{flat_map}
+use Rattle.bp_base.specs.Texts.{Text}
+use Rattle.hs_core.specs.WellTyped.{field_terms}
+use Rattle.kind_check.specs.Scopes.{decls_of}
+use Rattle.type_groups.specs.Uses.{with_numbers, uses_in}
+use Rattle.type_groups.proofs.uses.add_cons.Given as goal
+
+abbrev pub invariant-loop-index : goal.invariant-loop-index
+invariant-loop-index l = (ps : List Text) → l.numbers
+    ≡ with_numbers l.fn.numbers (uses_in (decls_of l.decls) (flat_map (field_terms ps) (take l.index l.cons)))
