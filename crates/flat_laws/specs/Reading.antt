@@ -1,0 +1,49 @@
+-- What a reader finds in texts of marks.
+use Rattle.std.specs.Prelude.{◌≡◌, ℕ, List, [], ◌∷◌, length, map, Ok}
+use Rattle.hs_tokens.specs.declared.token.Token.{Token}
+use Rattle.hs_tokens.specs.declared.terminal.Terminal.{Terminal}
+use Rattle.hs_tokens.specs.Terminals.{terminal_by, terminal_of}
+use Rattle.hs_lex.specs.declared.class.Start.TheVariants as s
+use Rattle.hs_lex.specs.Classes.{start_of}
+use Rattle.hs_lex.specs.Cover.{Covered}
+use Rattle.haskell_layout.specs.Layout.{layout_of}
+use Rattle.flat_lex.specs.Pieces.{IsPiece, IsSpaced, text_of}
+use Rattle.flat_text.specs.declared.flat.FlatModule.{FlatModule}
+use Rattle.flat_text.specs.Marks.{Mark, Marks, seen, shape_of, piece_of, pieces_of}
+use Rattle.flat_text.specs.ModuleMarks.{module_marks}
+
+-- a terminal whose text is read as it, and as nothing else, wherever nothing follows that goes on with it
+pub record IsLawful (x : Terminal) : Type 0 where
+  pub piece : IsPiece (piece_of (Mark.word x))
+  pub terminal : terminal_by (shape_of x).kind (shape_of x).text ≡ x
+
+-- Each terminal is lawful, and each blank is white space.
+abbrev pub AreLawful : Marks → Type 0
+AreLawful [] = Unit {0}
+AreLawful (Mark.blank b ∷ ms) = (start_of b ≡ s.White) × AreLawful ms
+AreLawful (Mark.word x ∷ ms) = IsLawful x × AreLawful ms
+
+-- the terminals of the text are these
+pub record ReadsAs (text : List ℕ) (terminals : List Terminal) : Type 0 where
+  pub tokens : List Token
+  pub covered : Covered text tokens
+  pub terminals_are : map terminal_of tokens ≡ terminals
+
+abbrev pub MarksAreRead : Type 0
+MarksAreRead = (ms : Marks) → AreLawful ms → IsSpaced (pieces_of ms) → ReadsAs (text_of (pieces_of ms)) (seen ms)
+
+-- the tokens of the text are these terminals, and are their own layout
+pub record ReadsLaidOut (text : List ℕ) (terminals : List Terminal) : Type 0 where
+  pub tokens : List Token
+  pub covered : Covered text tokens
+  pub laid_out : layout_of tokens (length text) ≡ Ok tokens
+  pub terminals_are : map terminal_of tokens ≡ terminals
+
+-- The flat text of a module is read as the terminals of its marks.
+abbrev pub FlatTextIsRead : Type 0
+FlatTextIsRead = (m : FlatModule) → AreLawful (module_marks m)
+    → ReadsLaidOut (text_of (pieces_of (module_marks m))) (seen (module_marks m))
+
+-- No two marks of a module touch that could be read as one.
+abbrev pub FlatTextIsSpaced : Type 0
+FlatTextIsSpaced = (m : FlatModule) → IsSpaced (pieces_of (module_marks m))

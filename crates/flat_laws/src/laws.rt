@@ -1,0 +1,12 @@
+//! What a reader finds in every flat text.
+ghost use Rattle.flat_laws.specs.Reading.{MarksAreRead, FlatTextIsSpaced};
+
+/// A text of lawful marks, of which no two touch that could be one, is read as its terminals.
+pub fn marks_are_read()
+    ensures { MarksAreRead }
+{}
+
+/// No two marks of a module touch that could be read as one, whatever its names are.
+pub fn flat_text_is_spaced()
+    ensures { FlatTextIsSpaced }
+{}
