@@ -47,7 +47,8 @@ use Rattle.flat_text.specs.declared.name.Place.{Place}
 use Rattle.flat_text.specs.declared.name.Place.TheVariants as p
 use Rattle.flat_text.specs.declared.types.Applied.{Applied}
 use Rattle.flat_text.specs.declared.types.Applied.TheVariants as a
-use Rattle.flat_text.specs.Marks.{Mark, Marks, shape_of, piece_of, pieces_of, space, line_end, keyword, bracketed}
+use Rattle.flat_text.specs.Marks.{Mark, Marks, Blank, shape_of, piece_of, pieces_of, space, line_end, keyword}
+use Rattle.flat_text.specs.Marks.{bracketed}
 use Rattle.flat_text.specs.Marks.{listed}
 use Rattle.flat_text.specs.Marks.{braced, bracketed_if, led, parted, block, spaced}
 use Rattle.flat_text.specs.Names.{form_of, flat_form, flat_name, bare_by, bare_marks, con_by, con_marks, quoted}
@@ -77,7 +78,7 @@ use Rattle.haskell_layout.specs.Laws.{none_due, matched_by, Matched}
 use Rattle.haskell_layout.proofs.AnsweringLemmas.{braces_lay_out}
 use Rattle.flat_lex.specs.Pieces.{text_of}
 use Rattle.flat_text.specs.Marks.{seen}
-use Rattle.flat_laws.specs.Reading.{AreLawful, ReadsLaidOut, FlatTextIsRead}
+use Rattle.flat_laws.specs.Reading.{FlatTextIsRead}
 use Rattle.flat_laws.proofs.ReadingLemmas.{marks_read}
 use Rattle.flat_laws.proofs.SpacingLemmas.{module_apart}
 
@@ -189,13 +190,14 @@ both_even xs ys g h = record {
       subst (Good depth) (sym (append_assoc xs ys rest)) (g.even depth (ys ++ rest) (h.even depth rest good));
 }
 
-blank_even : (b : ℕ) (ms : Marks) → Even ms → Even (Mark.blank b ∷ ms)
+blank_even : (b : Blank) (ms : Marks) → Even ms → Even (Mark.blank b ∷ ms)
 blank_even b ms h = record { even = λ depth rest good. h.even depth rest good }
 
 -- marks whose terminals are no braces, and make no block due
 sign_even : (x : Terminal) → Even (Mark.word x ∷ []) → (ms : Marks) → Even ms → Even (signed x ++ ms)
 sign_even x is ms h =
-    blank_even 32 (Mark.word x ∷ space ∷ ms) (both_even (Mark.word x ∷ []) (space ∷ ms) is (blank_even 32 ms h))
+    blank_even Blank.gap (Mark.word x ∷ space ∷ ms) (both_even (Mark.word x ∷ []) (space ∷ ms) is
+    (blank_even Blank.gap ms h))
 
 word_even : (x : Terminal) (ms : Marks) → Even (Mark.word x ∷ []) → Even ms → Even (Mark.word x ∷ ms)
 word_even x ms is h = both_even (Mark.word x ∷ []) ms is h
@@ -401,8 +403,8 @@ applied_even a.Other name args last n h g place =
     (both_even name (flat_map (λ (arg : Placed). space ∷ arg p.Atom) args ++ space ∷ last p.Atom) n
     (both_even (flat_map (λ (arg : Placed). space ∷ arg p.Atom) args) (space ∷ last p.Atom)
     (args_even (λ (arg : Placed). space ∷ arg p.Atom)
-    (λ arg each. blank_even 32 (arg p.Atom) (each p.Atom)) args h)
-    (blank_even 32 (last p.Atom) (g p.Atom))))
+    (λ arg each. blank_even Blank.gap (arg p.Atom) (each p.Atom)) args h)
+    (blank_even Blank.gap (last p.Atom) (g p.Atom))))
 
 type_even : (ty : Written) → TypeEven (type_text ty)
 type_even (WVar name) = record {
@@ -570,7 +572,7 @@ case_even of' alts g h =
     both_even (keyword w.Case ∷ space ∷ []) (of' ++ space ∷ keyword w.Of ∷ space ∷ block alts)
     (record { even = λ depth rest good. good })
     (both_even of' (space ∷ keyword w.Of ∷ space ∷ block alts) g
-    (blank_even 32 (keyword w.Of ∷ space ∷ block alts)
+    (blank_even Blank.gap (keyword w.Of ∷ space ∷ block alts)
     (of_even (led [] (Mark.word t.Semicolon ∷ space ∷ []) alts) (items_even alts h))))
 
 sign_marks_even : (sign : Sign) → Even (sign_marks sign)
@@ -587,7 +589,7 @@ choice_even sign guards exp g h =
 locals_even : (decls : List Marks) → AllEven decls → Even (where_marks decls)
 locals_even [] h = nothing_even
 locals_even (decl ∷ decls) h =
-    blank_even 32 (keyword w.Where ∷ space ∷ block (decl ∷ decls))
+    blank_even Blank.gap (keyword w.Where ∷ space ∷ block (decl ∷ decls))
     (where_even (led [] (Mark.word t.Semicolon ∷ space ∷ []) (decl ∷ decls)) (items_even (decl ∷ decls) h))
 
 op_even : (op : Exp) → Even (op_marks op)
@@ -637,7 +639,7 @@ mutual
   exp_even (RightSection' s' (more_of-Exp o' end_of-Exp) z (more_of-Exp a' end_of-Exp)) place =
       brackets_even (op_marks o' ++ space ∷ exp_marks a' p.Atom)
       (both_even (op_marks o') (space ∷ exp_marks a' p.Atom) (op_even o')
-      (blank_even 32 (exp_marks a' p.Atom) (exp_even a' p.Atom)))
+      (blank_even Blank.gap (exp_marks a' p.Atom) (exp_even a' p.Atom)))
   exp_even (Annot' s' (more_of-Exp e end_of-Exp) ty) place =
       if_even (at_atom place) (annot_marks (exp_marks e p.Atom) (type_marks ty p.Whole))
       (both_even (exp_marks e p.Atom) (signed t.DoubleColon ++ type_marks ty p.Whole) (exp_even e p.Atom)

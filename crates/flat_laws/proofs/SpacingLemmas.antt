@@ -47,7 +47,8 @@ use Rattle.flat_text.specs.declared.name.Place.{Place}
 use Rattle.flat_text.specs.declared.name.Place.TheVariants as p
 use Rattle.flat_text.specs.declared.types.Applied.{Applied}
 use Rattle.flat_text.specs.declared.types.Applied.TheVariants as a
-use Rattle.flat_text.specs.Marks.{Mark, Marks, shape_of, piece_of, pieces_of, space, line_end, keyword, bracketed}
+use Rattle.flat_text.specs.Marks.{Mark, Marks, Blank, shape_of, piece_of, pieces_of, space, line_end, keyword}
+use Rattle.flat_text.specs.Marks.{bracketed}
 use Rattle.flat_text.specs.Marks.{listed}
 use Rattle.flat_text.specs.Marks.{braced, bracketed_if, led, parted, block, spaced}
 use Rattle.flat_text.specs.Names.{form_of, flat_form, flat_name, bare_by, bare_marks, con_by, con_marks, quoted}
@@ -117,7 +118,7 @@ mark_before : (m : Mark) (ms : Marks) → neutral_first ms ≡ true → Apart ms
 mark_before m ms e h = (first_apart (start_at m) ms e, h)
 
 -- behind white space, a special character, a brace and a symbol
-behind_blank : (b : ℕ) (ms : Marks) → Apart ms → Apart (Mark.blank b ∷ ms)
+behind_blank : (b : Blank) (ms : Marks) → Apart ms → Apart (Mark.blank b ∷ ms)
 behind_blank b [] h = (refl, h)
 behind_blank b (m ∷ ms) h = (refl, h)
 
@@ -201,26 +202,26 @@ no_lead : IsLead []
 no_lead = record { apart = λ ms h. h }
 
 space_separates : IsSeparator (space ∷ [])
-space_separates = record { apart = λ ms h. behind_blank 32 ms h; neutral = λ ms. refl }
+space_separates = record { apart = λ ms h. behind_blank Blank.gap ms h; neutral = λ ms. refl }
 
 space_leads : IsLead (space ∷ [])
-space_leads = record { apart = λ ms h. behind_blank 32 ms h }
+space_leads = record { apart = λ ms h. behind_blank Blank.gap ms h }
 
 comma_separates : IsSeparator (Mark.word t.Comma ∷ space ∷ [])
 comma_separates = record {
-  apart = λ ms h. behind_special t.Comma (space ∷ ms) refl (behind_blank 32 ms h);
+  apart = λ ms h. behind_special t.Comma (space ∷ ms) refl (behind_blank Blank.gap ms h);
   neutral = λ ms. refl;
 }
 
 semicolon_separates : IsSeparator (Mark.word t.Semicolon ∷ space ∷ [])
 semicolon_separates = record {
-  apart = λ ms h. behind_special t.Semicolon (space ∷ ms) refl (behind_blank 32 ms h);
+  apart = λ ms h. behind_special t.Semicolon (space ∷ ms) refl (behind_blank Blank.gap ms h);
   neutral = λ ms. refl;
 }
 
 -- a sign with spaces
 behind_sign : (x : Terminal) (ms : Marks) → Apart ms → Apart (signed x ++ ms)
-behind_sign x ms h = (refl, mark_before (Mark.word x) (space ∷ ms) refl (behind_blank 32 ms h))
+behind_sign x ms h = (refl, mark_before (Mark.word x) (space ∷ ms) refl (behind_blank Blank.gap ms h))
 
 sign_separates : (x : Terminal) → IsSeparator (signed x)
 sign_separates x = record { apart = λ ms h. behind_sign x ms h; neutral = λ ms. refl }
@@ -255,7 +256,7 @@ block_apart parts h e =
 
 -- behind a word
 behind_word : (reserved : Word) (ms : Marks) → Apart ms → Apart (keyword reserved ∷ space ∷ ms)
-behind_word reserved ms h = mark_before (keyword reserved) (space ∷ ms) refl (behind_blank 32 ms h)
+behind_word reserved ms h = mark_before (keyword reserved) (space ∷ ms) refl (behind_blank Blank.gap ms h)
 
 -- ---- names
 
@@ -397,11 +398,11 @@ ends_apart by is place (arg ∷ args) last h g =
 fronts_apart : (args : List Placed) (last : Marks) → ArgsApart args → Apart last
     → Apart (flat_map (λ (arg : Placed). space ∷ arg p.Atom) args ++ space ∷ last)
     × (neutral_first (flat_map (λ (arg : Placed). space ∷ arg p.Atom) args ++ space ∷ last) ≡ true)
-fronts_apart [] last h g = (behind_blank 32 last g, refl)
+fronts_apart [] last h g = (behind_blank Blank.gap last g, refl)
 fronts_apart (arg ∷ args) last h g =
     let rest = flat_map (λ (it : Placed). space ∷ it p.Atom) args in
     let more = fronts_apart args last h.1 g in (
-      behind_blank 32 ((arg p.Atom ++ rest) ++ space ∷ last)
+      behind_blank Blank.gap ((arg p.Atom ++ rest) ++ space ∷ last)
           (subst Apart (sym (append_assoc (arg p.Atom) rest (space ∷ last)))
           (before (arg p.Atom) (rest ++ space ∷ last) (h.0 p.Atom) more.0 more.1)),
       refl,
@@ -617,7 +618,7 @@ fixity_apart : (occ : List ℕ) (fixity : Fixity) → Apart (fixity_marks occ fi
 fixity_apart occ fixity =
     behind_word (fixity_word fixity.assoc) (integer_mark fixity.level ∷ space ∷ bare_op occ)
     (mark_before (integer_mark fixity.level) (space ∷ bare_op occ) refl
-    (behind_blank 32 (bare_op occ) (bare_op_apart occ)))
+    (behind_blank Blank.gap (bare_op occ) (bare_op_apart occ)))
 
 -- ---- expressions
 
@@ -639,29 +640,30 @@ let_apart : (decls : List Marks) (body : Marks) → AllApart decls → AllPlain 
 let_apart decls body g e h =
     behind_word w.Let (block decls ++ space ∷ keyword w.In ∷ space ∷ body)
     (before (block decls) (space ∷ keyword w.In ∷ space ∷ body) (block_apart decls g e)
-    (behind_blank 32 (keyword w.In ∷ space ∷ body) (behind_word w.In body h)) refl)
+    (behind_blank Blank.gap (keyword w.In ∷ space ∷ body) (behind_word w.In body h)) refl)
 
 if_apart : (test one other : Marks) → Apart test → Apart one → Apart other → Apart (if_marks test one other)
 if_apart test one other g h k =
     behind_word w.If (test ++ space ∷ keyword w.Then ∷ space ∷ (one ++ space ∷ keyword w.Else ∷ space ∷ other))
     (before test (space ∷ keyword w.Then ∷ space ∷ (one ++ space ∷ keyword w.Else ∷ space ∷ other)) g
-    (behind_blank 32 (keyword w.Then ∷ space ∷ (one ++ space ∷ keyword w.Else ∷ space ∷ other))
+    (behind_blank Blank.gap (keyword w.Then ∷ space ∷ (one ++ space ∷ keyword w.Else ∷ space ∷ other))
     (behind_word w.Then (one ++ space ∷ keyword w.Else ∷ space ∷ other)
     (before one (space ∷ keyword w.Else ∷ space ∷ other) h
-    (behind_blank 32 (keyword w.Else ∷ space ∷ other) (behind_word w.Else other k)) refl))) refl)
+    (behind_blank Blank.gap (keyword w.Else ∷ space ∷ other) (behind_word w.Else other k)) refl))) refl)
 
 case_apart : (of' : Marks) (alts : List Marks) → Apart of' → AllApart alts → AllPlain alts → Apart (case_marks of' alts)
 case_apart of' alts g h e =
     behind_word w.Case (of' ++ space ∷ keyword w.Of ∷ space ∷ block alts)
     (before of' (space ∷ keyword w.Of ∷ space ∷ block alts) g
-    (behind_blank 32 (keyword w.Of ∷ space ∷ block alts)
+    (behind_blank Blank.gap (keyword w.Of ∷ space ∷ block alts)
     (behind_word w.Of (block alts) (block_apart alts h e))) refl)
 
 annot_apart : (exp ty : Marks) → Apart exp → Apart ty → Apart (annot_marks exp ty)
 annot_apart exp ty g h = before exp (signed t.DoubleColon ++ ty) g (behind_sign t.DoubleColon ty h) refl
 
 section_apart : (op arg : Marks) → Apart op → Apart arg → Apart (section_marks op arg)
-section_apart op arg g h = in_brackets (op ++ space ∷ arg) (before op (space ∷ arg) g (behind_blank 32 arg h) refl)
+section_apart op arg g h = in_brackets (op ++ space ∷ arg) (before op (space ∷ arg) g (behind_blank Blank.gap arg h)
+    refl)
 
 sign_of_tail : (sign : Sign) (ms : Marks) → Apart ms → Tail (sign_marks sign ++ ms)
 sign_of_tail n.Equals ms h = sign_tail t.Equals ms h
@@ -685,7 +687,7 @@ choice_tail sign guards exp g h =
 where_tail : (decls : List Marks) → AllApart decls → AllPlain decls → Tail (where_marks decls)
 where_tail [] h e = record { apart = tt; neutral = refl }
 where_tail (decl ∷ decls) h e = record {
-  apart = behind_blank 32 (keyword w.Where ∷ space ∷ block (decl ∷ decls))
+  apart = behind_blank Blank.gap (keyword w.Where ∷ space ∷ block (decl ∷ decls))
       (behind_word w.Where (block (decl ∷ decls)) (block_apart (decl ∷ decls) h e));
   neutral = refl;
 }
@@ -848,13 +850,13 @@ head_line name exports = record {
       let end = space ∷ keyword w.Where ∷ space ∷ Mark.word t.LeftBrace ∷ line_end ∷ [] in
       behind_word w.Module (Mark.word (t.Con name) ∷ space ∷ ((list ++ end) ++ rest))
       (mark_before (Mark.word (t.Con name)) (space ∷ ((list ++ end) ++ rest)) refl
-      (behind_blank 32 ((list ++ end) ++ rest)
+      (behind_blank Blank.gap ((list ++ end) ++ rest)
       (subst Apart (sym (append_assoc list end rest))
       (before list (end ++ rest) (in_brackets (parted (map export_marks exports))
       (parted_apart (map export_marks exports) (exports_apart exports)))
-      (behind_blank 32 (keyword w.Where ∷ space ∷ Mark.word t.LeftBrace ∷ line_end ∷ rest)
+      (behind_blank Blank.gap (keyword w.Where ∷ space ∷ Mark.word t.LeftBrace ∷ line_end ∷ rest)
       (behind_word w.Where (Mark.word t.LeftBrace ∷ line_end ∷ rest)
-      (behind_brace (line_end ∷ rest) refl (behind_blank 10 rest h)))) refl))));
+      (behind_brace (line_end ∷ rest) refl (behind_blank Blank.line rest h)))) refl))));
 }
 
 import_line : (name : List ℕ) → Line (import_marks name)
@@ -864,9 +866,9 @@ import_line name = record {
       ∷ Mark.word t.Semicolon ∷ line_end ∷ rest)
       (mark_before (Mark.word (t.Var (codes "qualified"))) (space ∷ Mark.word (t.Con name) ∷ Mark.word t.Semicolon
       ∷ line_end ∷ rest) refl
-      (behind_blank 32 (Mark.word (t.Con name) ∷ Mark.word t.Semicolon ∷ line_end ∷ rest)
+      (behind_blank Blank.gap (Mark.word (t.Con name) ∷ Mark.word t.Semicolon ∷ line_end ∷ rest)
       (mark_before (Mark.word (t.Con name)) (Mark.word t.Semicolon ∷ line_end ∷ rest) refl
-      (behind_special t.Semicolon (line_end ∷ rest) refl (behind_blank 10 rest h)))));
+      (behind_special t.Semicolon (line_end ∷ rest) refl (behind_blank Blank.line rest h)))));
 }
 
 decl_line : (decl : Decl) → Line (line_marks decl)
@@ -874,7 +876,7 @@ decl_line decl = record {
   joined = λ rest h.
       subst Apart (sym (append_assoc (decl_marks decl) (Mark.word t.Semicolon ∷ line_end ∷ []) rest))
       (before (decl_marks decl) (Mark.word t.Semicolon ∷ line_end ∷ rest) (decl_name decl).apart
-      (behind_special t.Semicolon (line_end ∷ rest) refl (behind_blank 10 rest h)) refl);
+      (behind_special t.Semicolon (line_end ∷ rest) refl (behind_blank Blank.line rest h)) refl);
 }
 
 lines : {A : Type 0} (g : A → Marks) → ((x : A) → Line (g x)) → (xs : List A) (rest : Marks) → Apart rest

@@ -1,10 +1,10 @@
 -- What a reader finds in texts of marks.
-use Rattle.std.specs.Prelude.{◌≡◌, ℕ, List, [], ◌∷◌, length, map, Ok}
+use Rattle.std.specs.Prelude.{◌≡◌, ℕ, Bool, true, false, not, List, [], ◌∷◌, length, map, Ok}
 use Rattle.hs_tokens.specs.declared.token.Token.{Token}
 use Rattle.hs_tokens.specs.declared.terminal.Terminal.{Terminal}
 use Rattle.hs_tokens.specs.Terminals.{terminal_by, terminal_of}
-use Rattle.hs_lex.specs.declared.class.Start.TheVariants as s
-use Rattle.hs_lex.specs.Classes.{start_of}
+use Rattle.hs_tokens.specs.declared.terminal.Terminal.TheVariants as t
+use Rattle.hs_tokens.specs.Words.{is_left_out}
 use Rattle.hs_lex.specs.Cover.{Covered}
 use Rattle.haskell_layout.specs.Layout.{layout_of}
 use Rattle.flat_lex.specs.Pieces.{IsPiece, IsSpaced, text_of}
@@ -17,11 +17,26 @@ pub record IsLawful (x : Terminal) : Type 0 where
   pub piece : IsPiece (piece_of (Mark.word x))
   pub terminal : terminal_by (shape_of x).kind (shape_of x).text ≡ x
 
--- Each terminal is lawful, and each blank is white space.
-abbrev pub AreLawful : Marks → Type 0
+-- what a reader knows by its form alone: brackets, separators, reserved symbols, and the words of this project's
+-- profile
+abbrev pub is_fixed : Terminal → Bool
+is_fixed (t.Var name) = false
+is_fixed (t.QVar name) = false
+is_fixed (t.Con name) = false
+is_fixed (t.VarSym name) = false
+is_fixed (t.QVarSym name) = false
+is_fixed (t.ConSym name) = false
+is_fixed (t.Integer digits) = false
+is_fixed (t.Char literal) = false
+is_fixed (t.Text literal) = false
+is_fixed (t.Word reserved) = not (is_left_out reserved)
+is_fixed t.Other = false
+is_fixed _ = true
+
+-- Each name and literal is lawful.
+abbrev pub AreLawful : List Terminal → Type 0
 AreLawful [] = Unit {0}
-AreLawful (Mark.blank b ∷ ms) = (start_of b ≡ s.White) × AreLawful ms
-AreLawful (Mark.word x ∷ ms) = IsLawful x × AreLawful ms
+AreLawful (x ∷ xs) = (is_fixed x ≡ false → IsLawful x) × AreLawful xs
 
 -- the terminals of the text are these
 pub record ReadsAs (text : List ℕ) (terminals : List Terminal) : Type 0 where
@@ -30,7 +45,7 @@ pub record ReadsAs (text : List ℕ) (terminals : List Terminal) : Type 0 where
   pub terminals_are : map terminal_of tokens ≡ terminals
 
 abbrev pub MarksAreRead : Type 0
-MarksAreRead = (ms : Marks) → AreLawful ms → IsSpaced (pieces_of ms) → ReadsAs (text_of (pieces_of ms)) (seen ms)
+MarksAreRead = (ms : Marks) → AreLawful (seen ms) → IsSpaced (pieces_of ms) → ReadsAs (text_of (pieces_of ms)) (seen ms)
 
 -- the tokens of the text are these terminals, and are their own layout
 pub record ReadsLaidOut (text : List ℕ) (terminals : List Terminal) : Type 0 where
@@ -41,7 +56,7 @@ pub record ReadsLaidOut (text : List ℕ) (terminals : List Terminal) : Type 0 w
 
 -- The flat text of a module is read as the terminals of its marks.
 abbrev pub FlatTextIsRead : Type 0
-FlatTextIsRead = (m : FlatModule) → AreLawful (module_marks m)
+FlatTextIsRead = (m : FlatModule) → AreLawful (seen (module_marks m))
     → ReadsLaidOut (text_of (pieces_of (module_marks m))) (seen (module_marks m))
 
 -- No two marks of a module touch that could be read as one.
