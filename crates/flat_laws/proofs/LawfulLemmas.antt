@@ -1,5 +1,5 @@
 -- Terminals that are read as themselves.
-use Rattle.std.proofs.Common.{◌≡◌, ℕ, ◌≤◌, Bool, true, false, List, [], ◌∷◌, ◌++◌, refl, ap, Some}
+use Rattle.std.proofs.Common.{◌≡◌, ℕ, ◌≤◌, Bool, true, false, List, [], ◌∷◌, ◌++◌, refl, ap, subst, sym, Some}
 use Rattle.std.specs.Prelude.{codes}
 use Rattle.std.specs.Fmt.{decimal}
 use Rattle.hs_tokens.specs.declared.terminal.Terminal.{Terminal}
@@ -17,7 +17,9 @@ use Rattle.hs_lex.specs.Lexicon.{capital, is_dashed}
 use Rattle.flat_lex.specs.Literals.{char_bytes, string_bytes, AreCodes}
 use Rattle.flat_lex.proofs.PieceLemmas.{small_piece, large_piece, symbol_piece, special_piece, brace_piece}
 use Rattle.flat_lex.proofs.LiteralLemmas.{integer_stands, character_stands, string_stands}
-use Rattle.flat_laws.specs.Reading.{IsLawful, is_fixed, ReadsAs}
+use Rattle.flat_laws.specs.Reading.{IsLawful, is_fixed, NamesAreLawful}
+use Rattle.hs_lex.specs.declared.class.Start.{Start}
+use Rattle.flat_lex.specs.Pieces.{IsPiece}
 
 left_paren_lawful : IsLawful t.LeftParen
 unfolding start_of
@@ -303,3 +305,42 @@ fixed_lawful (t.Integer name) e = cc
 fixed_lawful (t.Char name) e = cc
 fixed_lawful (t.Text name) e = cc
 fixed_lawful t.Other e = cc
+
+-- a constructor's symbol by what it begins with
+begun : (b : ℕ) (bs : List ℕ) (start : Start) → start_of b ≡ start
+    → IsPiece (record { start = start; kind = n.Token k.ConSym; text = b ∷ bs })
+    → IsPiece (record { start = start_of b; kind = n.Token k.ConSym; text = b ∷ bs })
+begun b bs start at piece = subst (λ st. IsPiece (record { start = st; kind = n.Token k.ConSym; text = b ∷ bs })) (sym at) piece
+
+-- names and literals
+pub names_lawful : NamesAreLawful
+names_lawful = record {
+  var = λ b bs at names is bare. record {
+    piece = small_piece b bs (n.Token k.Var) at names is refl;
+    terminal = ap (λ v. named v (t.QVar (b ∷ bs)) (t.Var (b ∷ bs))) bare;
+  };
+  var_sym = λ b bs at symbols dashed is bare. record {
+    piece = symbol_piece b bs (n.Token k.VarSym) at symbols dashed is refl;
+    terminal = ap (λ v. named v (t.QVarSym (b ∷ bs)) (t.VarSym (b ∷ bs))) bare;
+  };
+  con_sym = λ b bs at symbols dashed is. record {
+    piece = begun b bs s.Symbol at (symbol_piece b bs (n.Token k.ConSym) at symbols dashed is refl);
+    terminal = refl;
+  };
+  con = λ b bs at is. record { piece = large_piece b bs (n.Token k.Con) at is refl; terminal = refl };
+  qualified_var = λ b bs at is large. record {
+    piece = large_piece b bs (n.Token k.Var) at is refl;
+    terminal = ap (λ v. named v (t.QVar (b ∷ bs)) (t.Var (b ∷ bs))) large;
+  };
+  qualified_var_sym = λ b bs at is large. record {
+    piece = large_piece b bs (n.Token k.VarSym) at is refl;
+    terminal = ap (λ v. named v (t.QVarSym (b ∷ bs)) (t.VarSym (b ∷ bs))) large;
+  };
+  qualified_con_sym = λ b bs at is. record {
+    piece = begun b bs s.Large at (large_piece b bs (n.Token k.ConSym) at is refl);
+    terminal = refl;
+  };
+  integer = λ value h. record { piece = integer_stands value h; terminal = refl };
+  character = λ code h. record { piece = character_stands code h; terminal = refl };
+  string = λ text are. record { piece = string_stands text are; terminal = refl };
+}

@@ -1,11 +1,20 @@
 -- What a reader finds in texts of marks.
-use Rattle.std.specs.Prelude.{◌≡◌, ℕ, Bool, true, false, not, List, [], ◌∷◌, length, map, Ok}
+use Rattle.std.specs.Prelude.{◌≡◌, ◌≤◌, ◌++◌, Some, ℕ, Bool, true, false, not, List, [], ◌∷◌, length, map, Ok}
 use Rattle.hs_tokens.specs.declared.token.Token.{Token}
 use Rattle.hs_tokens.specs.declared.terminal.Terminal.{Terminal}
-use Rattle.hs_tokens.specs.Terminals.{terminal_by, terminal_of}
+use Rattle.hs_tokens.specs.Terminals.{terminal_by, terminal_of, is_qualified}
 use Rattle.hs_tokens.specs.declared.terminal.Terminal.TheVariants as t
 use Rattle.hs_tokens.specs.Words.{is_left_out}
+use Rattle.hs_tokens.specs.declared.token.TokenKind.TheVariants as k
+use Rattle.hs_lex.specs.declared.class.Class.TheVariants as c
+use Rattle.hs_lex.specs.declared.class.Start.TheVariants as s
+use Rattle.hs_lex.specs.declared.kind.Kind.TheVariants as n
+use Rattle.hs_lex.specs.Classes.{is_in, all, start_of}
+use Rattle.hs_lex.specs.Words.{word_kind, symbol_kind}
+use Rattle.hs_lex.specs.Lexicon.{capital, is_dashed}
 use Rattle.hs_lex.specs.Cover.{Covered}
+use Rattle.std.specs.Fmt.{decimal}
+use Rattle.flat_lex.specs.Literals.{char_bytes, string_bytes, AreCodes}
 use Rattle.haskell_layout.specs.Layout.{layout_of}
 use Rattle.flat_lex.specs.Pieces.{IsPiece, IsSpaced, text_of}
 use Rattle.flat_text.specs.declared.flat.FlatModule.{FlatModule}
@@ -62,3 +71,24 @@ FlatTextIsRead = (m : FlatModule) → AreLawful (seen (module_marks m))
 -- No two marks of a module touch that could be read as one.
 abbrev pub FlatTextIsSpaced : Type 0
 FlatTextIsSpaced = (m : FlatModule) → IsSpaced (pieces_of (module_marks m))
+
+-- Which names and literals are lawful: names and symbols, qualified and not, of which the lexer's definitions say what they are, and
+-- the literals that a printer writes.
+pub record NamesAreLawful : Type 0 where
+  pub var : (b : ℕ) (bs : List ℕ) → start_of b ≡ s.Small → all (is_in c.Name) bs ≡ true
+      → word_kind (b ∷ bs) ≡ n.Token k.Var → is_qualified (b ∷ bs) ≡ false → IsLawful (t.Var (b ∷ bs))
+  pub var_sym : (b : ℕ) (bs : List ℕ) → start_of b ≡ s.Symbol → all (is_in c.Symbol) bs ≡ true → is_dashed b bs ≡ false
+      → symbol_kind (b ∷ bs) ≡ n.Token k.VarSym → is_qualified (b ∷ bs) ≡ false → IsLawful (t.VarSym (b ∷ bs))
+  pub con_sym : (b : ℕ) (bs : List ℕ) → start_of b ≡ s.Symbol → all (is_in c.Symbol) bs ≡ true → is_dashed b bs ≡ false
+      → symbol_kind (b ∷ bs) ≡ n.Token k.ConSym → IsLawful (t.ConSym (b ∷ bs))
+  pub con : (b : ℕ) (bs : List ℕ) → start_of b ≡ s.Large → capital false bs [] ≡ Some (n.Token k.Con)
+      → IsLawful (t.Con (b ∷ bs))
+  pub qualified_var : (b : ℕ) (bs : List ℕ) → start_of b ≡ s.Large → capital false bs [] ≡ Some (n.Token k.Var)
+      → is_qualified (b ∷ bs) ≡ true → IsLawful (t.QVar (b ∷ bs))
+  pub qualified_var_sym : (b : ℕ) (bs : List ℕ) → start_of b ≡ s.Large → capital false bs [] ≡ Some (n.Token k.VarSym)
+      → is_qualified (b ∷ bs) ≡ true → IsLawful (t.QVarSym (b ∷ bs))
+  pub qualified_con_sym : (b : ℕ) (bs : List ℕ) → start_of b ≡ s.Large → capital false bs [] ≡ Some (n.Token k.ConSym)
+      → IsLawful (t.ConSym (b ∷ bs))
+  pub integer : (value : ℕ) → value ≤ 9223372036854775807 → IsLawful (t.Integer (decimal value))
+  pub character : (code : ℕ) → code ≤ 1114111 → IsLawful (t.Char (39 ∷ (char_bytes 39 code ++ 39 ∷ [])))
+  pub string : (text : List ℕ) → AreCodes text → IsLawful (t.Text (34 ∷ (string_bytes text ++ 34 ∷ [])))

@@ -1,5 +1,5 @@
 //! What a reader finds in every flat text.
-ghost use Rattle.flat_laws.specs.Reading.{MarksAreRead, FlatTextIsSpaced, FlatTextIsRead};
+ghost use Rattle.flat_laws.specs.Reading.{NamesAreLawful, MarksAreRead, FlatTextIsSpaced, FlatTextIsRead};
 
 /// A text of lawful marks, of which no two touch that could be one, is read as its terminals.
 pub fn marks_are_read()
@@ -15,4 +15,9 @@ pub fn flat_text_is_spaced()
 /// their own layout.
 pub fn flat_text_is_read()
     ensures { FlatTextIsRead }
+{}
+
+/// The names, symbols and literals that are lawful.
+pub fn names_are_lawful()
+    ensures { NamesAreLawful }
 {}

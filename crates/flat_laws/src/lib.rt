@@ -3,4 +3,4 @@
 
 mod laws;
 
-pub use laws::{flat_text_is_read, flat_text_is_spaced, marks_are_read};
+pub use laws::{flat_text_is_read, flat_text_is_spaced, marks_are_read, names_are_lawful};
