@@ -12,14 +12,15 @@ use Rattle.hs_core.specs.declared.tree.ConDecl.{ConDecl}
 use Rattle.hs_core.specs.declared.tree.FieldDecl.{FieldDecl}
 use Rattle.flat_text.specs.declared.name.Place.TheVariants as p
 use Rattle.flat_text.specs.Marks.{Mark, Marks, space, keyword, written, led, spaced}
-use Rattle.flat_text.specs.Names.{bare_marks, bare_op}
+use Rattle.flat_text.specs.Names.{bare_marks, con_marks, bare_op}
 use Rattle.flat_text.specs.Texts.{bare_text, bare_op_text, led_text}
 use Rattle.flat_text.specs.TypeMarks.{type_marks}
 use Rattle.flat_text.specs.PatternMarks.{integer_mark}
 use Rattle.flat_text.specs.ExpressionMarks.{signed, field_marks, con_decl_marks, data_word, data_marks, synonym_marks}
 use Rattle.flat_text.specs.ExpressionMarks.{type_sig_marks, fixity_word, fixity_marks}
 use Rattle.flat_text.specs.ExpressionTexts.{names_text, fields_text, cons_text, strict_text, data_text, fixity_text}
-use Rattle.flat_text.proofs.TextLemmas.{written_append, written_parts, written_bare, written_bare_op, space_is}
+use Rattle.flat_text.proofs.TextLemmas.{written_append, written_parts, written_bare, written_con, written_bare_op}
+use Rattle.flat_text.proofs.TextLemmas.{space_is}
 
 -- a sign with spaces
 pub equals_is : written (signed t.Equals) ≡ codes " = "
@@ -35,16 +36,18 @@ unfolding written
 double_colon_is = refl
 
 -- names with something before each
-bare_each : (names : List (List ℕ)) (lead by : List ℕ)
-    → led_text lead by (map (λ name. written (bare_marks name)) names) ≡ led_text lead by (map bare_text names)
-bare_each [] lead by = refl
-bare_each (name ∷ names) lead by = λ i. lead ++ (written_bare name i ++ bare_each names by by i)
+bare_each : (g : List ℕ → Marks) → ((name : List ℕ) → written (g name) ≡ bare_text name) → (names : List (List ℕ))
+    → (lead by : List ℕ) → led_text lead by (map (λ name. written (g name)) names) ≡ led_text lead by
+    (map bare_text names)
+bare_each g is [] lead by = refl
+bare_each g is (name ∷ names) lead by = λ i. lead ++ (is name i ++ bare_each g is names by by i)
 
-pub led_names : (lead by : Marks) (lead' by' : List ℕ) → written lead ≡ lead' → written by ≡ by'
-    → (names : List (List ℕ))
-    → written (led lead by (map bare_marks names)) ≡ names_text lead' by' names
+pub led_names : (g : List ℕ → Marks) → ((name : List ℕ) → written (g name) ≡ bare_text name) → (lead by : Marks)
+    → (lead' by' : List ℕ) → written lead ≡ lead' → written by ≡ by' → (names : List (List ℕ))
+    → written (led lead by (map g names)) ≡ names_text lead' by' names
 unfolding names_text
-led_names lead by lead' by' e f names = written_parts lead by lead' by' e f bare_marks names ∙ bare_each names lead' by'
+led_names g is lead by lead' by' e f names =
+    written_parts lead by lead' by' e f g names ∙ bare_each g is names lead' by'
 
 abbrev bang : Marks
 bang = Mark.word (t.VarSym (codes "!")) ∷ []
@@ -65,8 +68,8 @@ text_field field = by field.strict field.ty
 pub text_con : (con : ConDecl) → written (con_decl_marks con) ≡ bare_text con.occ ++ fields_text con.fields
 unfolding fields_text
 text_con con =
-    written_append (bare_marks con.occ) (spaced (map field_marks con.fields))
-    ∙ (λ i. written_bare con.occ i
+    written_append (con_marks con.occ) (spaced (map field_marks con.fields))
+    ∙ (λ i. written_con con.occ i
     ++ written_parts (space ∷ []) (space ∷ []) (codes " ") (codes " ") space_is space_is field_marks con.fields i)
 
 led_cons : (cons : List ConDecl) → written (led (signed t.Equals) (signed t.Bar) (map con_decl_marks cons)) ≡ cons_text
@@ -77,7 +80,8 @@ led_cons cons = written_parts (signed t.Equals) (signed t.Bar) (codes " = ") (co
 
 spaced_names : (names : List (List ℕ)) → written (spaced (map bare_marks names)) ≡ names_text (codes " ") (codes " ")
     names
-spaced_names names = led_names (space ∷ []) (space ∷ []) (codes " ") (codes " ") space_is space_is names
+spaced_names names = led_names bare_marks written_bare (space ∷ []) (space ∷ []) (codes " ") (codes " ") space_is
+    space_is names
 
 -- behind a word and a space
 pub behind_word : (word' : _) (ms : Marks) → written (keyword word' ∷ space ∷ ms)
@@ -99,9 +103,9 @@ pub text_data : (occ : List ℕ) (is_new : Bool) (params : List (List ℕ)) (con
     ++ cons_text cons)))
 text_data occ is_new params cons =
     behind_word (data_word is_new) _
-    ∙ (λ i. data_word_is is_new i ++ (codes " " ++ written_append (bare_marks occ)
+    ∙ (λ i. data_word_is is_new i ++ (codes " " ++ written_append (con_marks occ)
     (spaced (map bare_marks params) ++ led (signed t.Equals) (signed t.Bar) (map con_decl_marks cons)) i))
-    ∙ (λ i. data_text is_new ++ (codes " " ++ (written_bare occ i
+    ∙ (λ i. data_text is_new ++ (codes " " ++ (written_con occ i
     ++ written_append (spaced (map bare_marks params)) (led (signed t.Equals) (signed t.Bar)
     (map con_decl_marks cons)) i)))
     ∙ (λ i. data_text is_new ++ (codes " " ++ (bare_text occ ++ (spaced_names params i ++ led_cons cons i))))
@@ -115,9 +119,9 @@ pub text_synonym : (occ : List ℕ) (params : List (List ℕ)) (body : Written) 
     ++ (codes " = " ++ written (type_marks body p.Whole))))
 text_synonym occ params body =
     behind_word w.Type _
-    ∙ (λ i. type_word_is i ++ (codes " " ++ written_append (bare_marks occ)
+    ∙ (λ i. type_word_is i ++ (codes " " ++ written_append (con_marks occ)
     (spaced (map bare_marks params) ++ (signed t.Equals ++ type_marks body p.Whole)) i))
-    ∙ (λ i. codes "type " ++ (written_bare occ i
+    ∙ (λ i. codes "type " ++ (written_con occ i
     ++ written_append (spaced (map bare_marks params)) (signed t.Equals ++ type_marks body p.Whole) i))
     ∙ (λ i. codes "type " ++ (bare_text occ ++ (spaced_names params i
     ++ written_append (signed t.Equals) (type_marks body p.Whole) i)))

@@ -11,7 +11,7 @@ use Rattle.flat_lex.specs.Pieces.{text_of}
 use Rattle.flat_text.specs.declared.flat.FlatExport.{FlatExport}
 use Rattle.flat_text.specs.declared.flat.FlatModule.{FlatModule}
 use Rattle.flat_text.specs.Marks.{Mark, Marks, space, keyword, line_end, written, parted, pieces_of}
-use Rattle.flat_text.specs.Names.{bare_marks, flat_marks}
+use Rattle.flat_text.specs.Names.{con_marks, flat_marks}
 use Rattle.flat_text.specs.Texts.{close_text, flat_text}
 use Rattle.flat_text.specs.ExpressionMarks.{decl_marks}
 use Rattle.flat_text.specs.ExpressionTexts.{names_text}
@@ -19,7 +19,7 @@ use Rattle.flat_text.specs.ModuleMarks.{cons_marks, export_marks, head_marks, im
 use Rattle.flat_text.specs.ModuleTexts.{exports_text, head_text, import_text, imports_text, line_text}
 use Rattle.flat_text.specs.ModuleTexts.{lines_text}
 use Rattle.flat_text.proofs.TextLemmas.{written_append, written_bracketed, written_parts, written_flat, nothing_is}
-use Rattle.flat_text.proofs.TextLemmas.{comma_is, pushed_five}
+use Rattle.flat_text.proofs.TextLemmas.{comma_is, pushed_five, written_con}
 use Rattle.flat_text.proofs.DeclarationLemmas.{led_names}
 
 some_cons : (con : List ℕ) (cons : List (List ℕ)) → (length (con ∷ cons) == 0) ≡ false
@@ -31,9 +31,10 @@ cons_text : (cons : List (List ℕ)) → written (cons_marks cons)
 unfolding names_text written
 cons_text [] = refl
 cons_text (con ∷ cons) =
-    written_bracketed (parted (map bare_marks (con ∷ cons)))
+    written_bracketed (parted (map con_marks (con ∷ cons)))
     ∙ ap (λ v. codes "(" ++ (v ++ codes ")"))
-    (led_names [] (Mark.word t.Comma ∷ space ∷ []) [] (codes ", ") nothing_is comma_is (con ∷ cons))
+    (led_names con_marks written_con [] (Mark.word t.Comma ∷ space ∷ []) [] (codes ", ") nothing_is comma_is
+    (con ∷ cons))
     ∙ ap (λ v. names_text (codes "(") (codes ", ") (con ∷ cons) ++ close_text (not v)) (sym (some_cons con cons))
 
 pub text_export : (export : FlatExport) → written (export_marks export) ≡ flat_text export.name

@@ -13,7 +13,7 @@ use Rattle.flat_text.specs.Marks.{Mark, Marks, space, written, bracketed, listed
 use Rattle.flat_text.specs.Names.{bare_marks, global_marks}
 use Rattle.flat_text.specs.Texts.{open_text, close_text, bare_text, global_text, number_text, char_text}
 use Rattle.flat_text.specs.Texts.{string_text}
-use Rattle.flat_text.specs.PatternMarks.{pat_marks, pats_marks, con_marks, signed_marks, char_mark}
+use Rattle.flat_text.specs.PatternMarks.{pat_marks, pats_marks, con_pat_marks, signed_marks, char_mark}
 use Rattle.flat_text.specs.PatternMarks.{string_mark}
 use Rattle.flat_text.specs.PatternTexts.{pat_text, pats_text}
 use Rattle.flat_text.proofs.TextLemmas.{written_append, written_bracketed, written_listed, written_bare}
@@ -75,7 +75,7 @@ abbrev application : Bool → List ℕ → List Pat → List ℕ
 application bare name l = open_text (not bare) ++ ((name ++ pats_text (codes " ") (codes " ") l)
     ++ close_text (not bare))
 
-con_text : (name : Marks) (l : List Pat) → written (con_marks name (map pat_marks l)) ≡ application (length l == 0)
+con_text : (name : Marks) (l : List Pat) → written (con_pat_marks name (map pat_marks l)) ≡ application (length l == 0)
     (written name) l
 unfolding pats_text
 con_text name [] = sym (append-nil (written name ++ []) ∙ append-nil (written name))
@@ -89,7 +89,7 @@ pub text_PCon : (name : OrigName) (l : List Pat) → written (pat_marks (PCon na
     ≡ open_text (not (length l == 0)) ++ ((global_text name
     ++ pats_text (codes " ") (codes " ") l) ++ close_text (not (length l == 0)))
 text_PCon name l =
-    ap (λ r. written (con_marks (global_marks name) r)) (pats_list l) ∙ con_text (global_marks name) l
+    ap (λ r. written (con_pat_marks (global_marks name) r)) (pats_list l) ∙ con_text (global_marks name) l
     ∙ ap (λ w. application (length l == 0) w l) (written_global name)
 
 pub text_PTuple : (l : List Pat) → written (pat_marks (PTuple l)) ≡ codes "("

@@ -10,7 +10,8 @@ use Rattle.flat_text.specs.declared.name.NameForm.{NameForm}
 use Rattle.flat_text.specs.declared.name.NameForm.TheVariants as f
 use Rattle.flat_text.specs.Marks.{Mark, Marks, piece_of, pieces_of, written, space, bracketed, bracketed_if, listed}
 use Rattle.flat_text.specs.Marks.{led}
-use Rattle.flat_text.specs.Names.{form_of, flat_form, flat_name, bare_by, bare_marks, bare_op_by, bare_op, flat_by}
+use Rattle.flat_text.specs.Names.{form_of, flat_form, flat_name, bare_by, bare_marks, con_by, con_marks, bare_op_by}
+use Rattle.flat_text.specs.Names.{bare_op, flat_by}
 use Rattle.flat_text.specs.Names.{flat_marks, global_by, global_marks, global_op_by, global_op}
 use Rattle.flat_text.specs.Texts.{is_symbol, open_text, close_text, enclosed, bare_text, bare_op_text, flat_text}
 use Rattle.flat_text.specs.Texts.{global_text_by, global_text, global_op_text_by, global_op_text, ticked}
@@ -106,6 +107,21 @@ bare_by_text f.Tuple name = refl
 pub written_bare : (name : List ℕ) → written (bare_marks name) ≡ bare_text name
 unfolding bare_marks bare_text
 written_bare name = bare_by_text (form_of name) name
+
+con_by_text : (form : NameForm) (name : List ℕ) → written (con_by form name) ≡ enclosed (is_symbol form) name
+unfolding written
+con_by_text f.Con name = refl
+con_by_text f.VarSym name = refl
+con_by_text f.ConSym name = refl
+con_by_text f.Var name = refl
+con_by_text f.Colon name = refl
+con_by_text f.Arrow name = refl
+con_by_text f.List name = refl
+con_by_text f.Tuple name = refl
+
+pub written_con : (name : List ℕ) → written (con_marks name) ≡ bare_text name
+unfolding con_marks bare_text
+written_con name = con_by_text (form_of name) name
 
 bare_op_by_text : (form : NameForm) (name : List ℕ) → written (bare_op_by form name) ≡ ticked (not (is_symbol form))
     name

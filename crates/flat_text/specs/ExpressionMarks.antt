@@ -31,7 +31,7 @@ use Rattle.flat_text.specs.declared.name.Place.{Place}
 use Rattle.flat_text.specs.declared.name.Place.TheVariants as p
 use Rattle.flat_text.specs.Marks.{Mark, Marks, space, keyword, bracketed, bracketed_if, listed, led, parted, block}
 use Rattle.flat_text.specs.Marks.{spaced}
-use Rattle.flat_text.specs.Names.{bare_marks, bare_op, global_marks, global_op}
+use Rattle.flat_text.specs.Names.{bare_marks, con_marks, bare_op, global_marks, global_op}
 use Rattle.flat_text.specs.TypeMarks.{at_atom, type_marks}
 use Rattle.flat_text.specs.PatternMarks.{integer_mark, char_mark, string_mark, pat_marks}
 
@@ -87,7 +87,7 @@ field_marks field = strictness field.strict ++ type_marks field.ty p.Atom
     strictness false = []
 
 abbrev pub con_decl_marks : ConDecl → Marks
-con_decl_marks con = bare_marks con.occ ++ spaced (map field_marks con.fields)
+con_decl_marks con = con_marks con.occ ++ spaced (map field_marks con.fields)
 
 abbrev pub data_word : Bool → Word
 data_word true = w.Newtype
@@ -96,13 +96,13 @@ data_word false = w.Data
 -- `data T a b = C t t | D`
 abbrev pub data_marks : List ℕ → Bool → List (List ℕ) → List ConDecl → Marks
 data_marks occ is_new params cons =
-    keyword (data_word is_new) ∷ space ∷ (bare_marks occ ++ (spaced (map bare_marks params)
+    keyword (data_word is_new) ∷ space ∷ (con_marks occ ++ (spaced (map bare_marks params)
     ++ led (signed t.Equals) (signed t.Bar) (map con_decl_marks cons)))
 
 -- `type T a = t`
 abbrev pub synonym_marks : List ℕ → List (List ℕ) → Written → Marks
 synonym_marks occ params body =
-    keyword w.Type ∷ space ∷ (bare_marks occ ++ (spaced (map bare_marks params)
+    keyword w.Type ∷ space ∷ (con_marks occ ++ (spaced (map bare_marks params)
     ++ (signed t.Equals ++ type_marks body p.Whole)))
 
 -- `x :: t`

@@ -12,9 +12,18 @@ use Rattle.hs_lex.specs.declared.kind.Kind.TheVariants as n
 use Rattle.hs_lex.specs.Classes.{start_of}
 use Rattle.flat_lex.specs.Pieces.{Piece, text_of}
 
--- white space, which is one byte, or a terminal
+-- a space, or the end of a line
+pub data Blank : Type 0 where
+  gap : Blank
+  line : Blank
+
+abbrev pub blank_byte : Blank → ℕ
+blank_byte Blank.gap = 32
+blank_byte Blank.line = 10
+
+-- white space or a terminal
 pub data Mark : Type 0 where
-  blank : ℕ → Mark
+  blank : Blank → Mark
   word : Terminal → Mark
 
 abbrev pub Marks : Type 0
@@ -102,7 +111,7 @@ shape_of (t.Word reserved) = record { start = s.Small; kind = k.Reserved; text =
 shape_of t.Other = special []
 
 abbrev pub piece_of : Mark → Piece
-piece_of (Mark.blank b) = record { start = s.White; kind = n.White; text = b ∷ [] }
+piece_of (Mark.blank b) = record { start = s.White; kind = n.White; text = blank_byte b ∷ [] }
 piece_of (Mark.word x) = record {
   start = (shape_of x).start;
   kind = n.Token (shape_of x).kind;
@@ -117,10 +126,10 @@ unfoldable pub written : Marks → List ℕ
 written ms = text_of (pieces_of ms)
 
 abbrev pub space : Mark
-space = Mark.blank 32
+space = Mark.blank Blank.gap
 
 abbrev pub line_end : Mark
-line_end = Mark.blank 10
+line_end = Mark.blank Blank.line
 
 abbrev pub keyword : Word → Mark
 keyword reserved = Mark.word (t.Word reserved)

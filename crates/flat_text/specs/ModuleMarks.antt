@@ -7,13 +7,13 @@ use Rattle.hs_core.specs.declared.tree.Decl.{Decl}
 use Rattle.flat_text.specs.declared.flat.FlatExport.{FlatExport}
 use Rattle.flat_text.specs.declared.flat.FlatModule.{FlatModule}
 use Rattle.flat_text.specs.Marks.{Mark, Marks, space, line_end, keyword, bracketed, parted}
-use Rattle.flat_text.specs.Names.{bare_marks, flat_marks}
+use Rattle.flat_text.specs.Names.{con_marks, flat_marks}
 use Rattle.flat_text.specs.ExpressionMarks.{decl_marks}
 
 -- `(C, D)`
 abbrev pub cons_marks : List (List ℕ) → Marks
 cons_marks [] = []
-cons_marks (con ∷ cons) = bracketed (parted (map bare_marks (con ∷ cons)))
+cons_marks (con ∷ cons) = bracketed (parted (map con_marks (con ∷ cons)))
 
 -- `U0.M.x` and `U0.M.T(C, D)`
 abbrev pub export_marks : FlatExport → Marks

@@ -49,15 +49,23 @@ place_of (Module' s (more_of-Unit u end_of-Unit) m) = unit_place (out-Unit u).co
 abbrev pub flat_name : OrigName → List ℕ
 flat_name n = place_of n.at ++ (codes "." ++ n.occ)
 
--- a name alone, where a name stands: a symbol has brackets
+-- a variable's name alone, where a name stands: a symbol has brackets
 abbrev pub bare_by : NameForm → List ℕ → Marks
-bare_by f.Con name = Mark.word (t.Con name) ∷ []
 bare_by f.VarSym name = bracketed (Mark.word (t.VarSym name) ∷ [])
-bare_by f.ConSym name = bracketed (Mark.word (t.ConSym name) ∷ [])
+bare_by f.ConSym name = bracketed (Mark.word (t.VarSym name) ∷ [])
 bare_by _ name = Mark.word (t.Var name) ∷ []
 
 unfoldable pub bare_marks : List ℕ → Marks
 bare_marks name = bare_by (form_of name) name
+
+-- the same of a constructor or a type
+abbrev pub con_by : NameForm → List ℕ → Marks
+con_by f.VarSym name = bracketed (Mark.word (t.ConSym name) ∷ [])
+con_by f.ConSym name = bracketed (Mark.word (t.ConSym name) ∷ [])
+con_by _ name = Mark.word (t.Con name) ∷ []
+
+unfoldable pub con_marks : List ℕ → Marks
+con_marks name = con_by (form_of name) name
 
 -- a name alone, where an operator stands: a word has backquotes
 abbrev pub quoted : Terminal → Marks

@@ -26,9 +26,9 @@ signed_marks false value = integer_mark value ∷ []
 signed_marks true value = bracketed (Mark.word (t.VarSym minus) ∷ integer_mark value ∷ [])
 
 -- `C` and `(C p p)`
-abbrev pub con_marks : Marks → List Marks → Marks
-con_marks name [] = name
-con_marks name (arg ∷ args) = bracketed (name ++ spaced (arg ∷ args))
+abbrev pub con_pat_marks : Marks → List Marks → Marks
+con_pat_marks name [] = name
+con_pat_marks name (arg ∷ args) = bracketed (name ++ spaced (arg ∷ args))
 
 -- `x@p` and `(~p)`
 abbrev pub as_marks : List ℕ → Marks → Marks
@@ -44,7 +44,7 @@ abbrev mutual
   pat_marks (PInt negative value) = signed_marks negative value
   pat_marks (PChr code) = char_mark code ∷ []
   pat_marks (PStr text) = string_mark text ∷ []
-  pat_marks (PCon' name s ps) = con_marks (global_marks name) (pats_marks ps)
+  pat_marks (PCon' name s ps) = con_pat_marks (global_marks name) (pats_marks ps)
   pat_marks (PTuple' s ps) = bracketed (parted (pats_marks ps))
   pat_marks (PList' s ps) = listed (parted (pats_marks ps))
   pat_marks (PAs' name s (more_of-Pat p end_of-Pat)) = as_marks name (pat_marks p)

@@ -4,4 +4,4 @@ mod StepLemmas
 mod StandingLemmas
 mod StayingLemmas
 mod MatchingLemmas
-mod AnsweringLemmas
+pub mod AnsweringLemmas

@@ -1,0 +1,4 @@
+pub mod LawfulLemmas
+pub mod ReadingLemmas
+pub mod SpacingLemmas
+pub mod BraceLemmas
