@@ -1,0 +1,3 @@
+pub mod HoleLemmas
+pub mod EquationLemmas
+pub mod PrincipalLemmas

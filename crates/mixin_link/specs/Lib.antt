@@ -1,0 +1,3 @@
+pub mod Linkings
+pub mod Equations
+pub mod Laws

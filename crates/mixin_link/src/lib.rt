@@ -1,0 +1,9 @@
+//! Linking: the identities of the required names of a component, from what its includes provide and need (Kilpatrick and others, POPL
+//! 2014; Yang's thesis, 2017).
+#![tactic(auto)]
+
+mod laws;
+mod open;
+
+pub use laws::{answers_are_principal, causes_leave_none, linkings_are_unifiers, principal_is_one};
+pub use open::{OpenInclude, OpenIncludes};
