@@ -37,7 +37,7 @@ among-filter {A} f a (x ∷ xs) h e = by (f x) refl h (λ k. among-filter f a xs
     by false d (inl p) k = let t : f x ≡ true = ap f p ∙ e in cc
     by false d (inr m) k = k m
 
-filter-among : {A : Type 0} (f : A → Bool) (a : A) (xs : List A) → Among a (filter f xs) → Among a xs × (f a ≡ true)
+pub filter-among : {A : Type 0} (f : A → Bool) (a : A) (xs : List A) → Among a (filter f xs) → Among a xs × (f a ≡ true)
 filter-among f a [] h = absurd h
 filter-among {A} f a (x ∷ xs) h = by (f x) refl h (filter-among f a xs)
   where

@@ -1,5 +1,6 @@
 -- The equations of a linking.
 use Rattle.std.specs.Prelude.{List, [], ◌∷◌, ◌++◌, map}
+use Rattle.std.specs.List.{flat_map}
 use Rattle.bp_base.specs.declared.ident.Ident.{Ident}
 use Rattle.bp_base.specs.declared.ident.Ident.TheVariants.{Hole}
 use Rattle.bp_base.specs.declared.ident.Fill.{Fill}
@@ -14,9 +15,13 @@ use Rattle.mixin_names.specs.Names.{provisions_of}
 use Rattle.mixin_link.specs.declared.open.OpenInclude.{OpenInclude}
 use Rattle.mixin_link.specs.Linkings.{fills_under}
 
--- the name of a provision has the provision's identity in the include's open unit, whose holes are the linkage names
+-- the name of a provision has the provision's identity in the unit with these fills
+abbrev pub equation_in : List Fill → Provision → Equation
+equation_in fills p = record { label = p.name; left = Hole p.name; right = filled p.ident fills }
+
+-- in an include's open unit the holes are the linkage names
 abbrev pub equation : List Rename → Provision → Equation
-equation needs p = record { label = p.name; left = Hole p.name; right = filled p.ident (fills_under Hole needs) }
+equation needs p = equation_in (fills_under Hole needs) p
 
 -- the equations of one name: by include, and at one include in the order of its provisions
 abbrev pub equations_at : Text → List OpenInclude → List Equation
@@ -25,8 +30,7 @@ equations_at name (i ∷ is) = map (equation i.needs) (provisions_of i.provides 
 
 -- the equations by required name
 abbrev pub equations_of : List Text → List OpenInclude → List Equation
-equations_of [] is = []
-equations_of (n ∷ ns) is = equations_at n is ++ equations_of ns is
+equations_of required is = flat_map (λ n. equations_at n is) required
 
 -- fills that put at each name what an assignment does
 abbrev pub fills_for : (Text → Ident) → List Text → List Fill

@@ -2,8 +2,18 @@
 //! 2014; Yang's thesis, 2017).
 #![tactic(auto)]
 
+mod entry;
+mod equations;
+mod error;
 mod laws;
+mod link;
 mod open;
+mod required;
+mod summary;
+mod written;
 
+pub use error::LinkError;
 pub use laws::{answers_are_principal, causes_leave_none, linkings_are_unifiers, principal_is_one};
+pub use link::link_names;
 pub use open::{OpenInclude, OpenIncludes};
+pub use summary::{Summaries, Summary};
