@@ -1,0 +1,6 @@
+pub mod HoleLemmas
+pub mod EquationLemmas
+pub mod PrincipalLemmas
+pub mod NameLemmas
+pub mod UnitLemmas
+pub mod LinkLemmas

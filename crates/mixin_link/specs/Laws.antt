@@ -1,0 +1,37 @@
+-- What linkings have to do with unifiers.
+use Rattle.std.specs.Prelude.{◌≡◌, List}
+use Rattle.bp_base.specs.declared.ident.Ident.{Ident}
+use Rattle.bp_base.specs.declared.ident.Fill.{Fill}
+use Rattle.bp_base.specs.Lists.{Among}
+use Rattle.bp_base.specs.Texts.{Text}
+use Rattle.unit_identity.specs.Fill.{at_hole}
+use Rattle.hole_unify.specs.declared.equation.IdentUnifyError.{IdentUnifyError}
+use Rattle.hole_unify.specs.declared.equation.IdentUnifyError.TheVariants.{NoMemory}
+use Rattle.hole_unify.specs.Unifiers.{IsUnifier, IsAnswer}
+use Rattle.hole_unify.specs.Causes.{IsCause}
+use Rattle.hole_unify.specs.Occurrence.{AreOfEquations}
+use Rattle.mixin_link.specs.declared.open.OpenInclude.{OpenInclude}
+use Rattle.mixin_link.specs.Linkings.{IsLinking, IsPrincipal}
+use Rattle.mixin_link.specs.Equations.{equations_of, fills_for, AreOpen}
+
+-- the linkings are the unifiers of the equations
+abbrev pub LinkingsAreUnifiers : Type 0
+LinkingsAreUnifiers = (required : List Text) (is : List OpenInclude) → AreOpen required is
+    → ((f : List Fill) → IsUnifier (equations_of required is) f → IsLinking required is (λ n. at_hole n f))
+    × ((s : Text → Ident) → IsLinking required is s → IsUnifier (equations_of required is) (fills_for s required))
+
+-- the most general unifier with least names is the principal linking
+abbrev pub AnswersArePrincipal : Type 0
+AnswersArePrincipal = (required : List Text) (is : List OpenInclude) (f : List Fill) → AreOpen required is
+    → IsAnswer (equations_of required is) f → AreOfEquations (equations_of required is) f
+    → IsPrincipal required is (λ n. at_hole n f)
+
+-- two principal linkings assign the same to each required name
+abbrev pub PrincipalIsOne : Type 0
+PrincipalIsOne = (required : List Text) (is : List OpenInclude) (s t : Text → Ident) → IsPrincipal required is s
+    → IsPrincipal required is t → (n : Text) → Among n required → s n ≡ t n
+
+-- where a refusal of the equations has a cause, there is no linking
+abbrev pub CausesLeaveNone : Type 0
+CausesLeaveNone = (required : List Text) (is : List OpenInclude) (e : IdentUnifyError) (s : Text → Ident)
+    → AreOpen required is → IsCause (equations_of required is) e → IsLinking required is s → e ≡ NoMemory
