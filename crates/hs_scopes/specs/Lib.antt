@@ -1,0 +1,11 @@
+pub mod Words
+pub mod Sides
+pub mod Chains
+pub mod Reads
+pub mod Meanings
+pub mod Some
+pub mod Types
+pub mod Patterns
+pub mod Resolved
+pub mod Laws
+pub mod Examples
