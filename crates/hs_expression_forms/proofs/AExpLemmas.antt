@@ -33,6 +33,8 @@ use Rattle.hs_modules.specs.declared.expressions.AExpTree.TheVariants as a
 use Rattle.hs_modules.specs.declared.expressions.ExpTree.{ExpTree}
 use Rattle.hs_modules.specs.declared.expressions.InfixTree.{InfixTree, out-InfixTree}
 use Rattle.hs_modules.proofs.FoldingLemmas.{AExpTrees}
+use Rattle.hs_expression_forms.specs.declared.front.Front.{Front}
+use Rattle.hs_expression_forms.specs.declared.front.Front.TheVariants as fr
 use Rattle.hs_expression_forms.specs.Trees.{Trees, Makes, Embeds, within, behind_token, ended}
 use Rattle.hs_expression_forms.specs.Expressions.{aexps, is_aexp, is_exp, exp_parts, starts_operand, starts_exp, few}
 use Rattle.hs_expression_forms.specs.Fronts.{Inside, Bunch, bunch_of, bunches, insides, section_ops, right_sections, fixed}
@@ -451,8 +453,8 @@ inside_embeds = record {
 }
   where
     back : Bunch → Inside
-    back (inl e, xs) = inl (e, xs)
-    back (inr p, xs) = inr p
+    back (fr.Exp e, xs) = inl (e, xs)
+    back (fr.Section x op, xs) = inr (x, op)
 
     same : (i : Inside) → back (bunch_of i) ≡ i
     same (inl p) = refl
@@ -462,8 +464,8 @@ inside_embeds = record {
     one i j e = sym (same i) ∙ ap back e ∙ same j
 
 pub inside_back : (b : Bunch) → bunches.formed b ≡ true → (i : Inside) × (b ≡ bunch_of i)
-inside_back (inl e, xs) good = (inl (e, xs), refl)
-inside_back (inr p, []) good = (inr p, refl)
-inside_back (inr p, x ∷ xs) good =
+inside_back (fr.Exp e, xs) good = (inl (e, xs), refl)
+inside_back (fr.Section x op, []) good = (inr (x, op), refl)
+inside_back (fr.Section y op, x ∷ xs) good =
     absurd (true≢false (sym (and_right (few (Some 14) (length (x ∷ xs))) _
     (and_left (few (Some 14) (length (x ∷ xs)) && false) _ good))))

@@ -15,9 +15,11 @@ use Rattle.hs_trees.specs.Patterns.{Ts}
 use Rattle.hs_modules.specs.Tokens.{spelling_exp}
 use Rattle.hs_modules.specs.Formed.{facts_of_exp}
 use Rattle.hs_modules.specs.declared.expressions.ExpTree.{ExpTree}
+use Rattle.hs_expression_forms.specs.declared.front.Front.{Front}
+use Rattle.hs_expression_forms.specs.declared.front.Front.TheVariants as fr
 use Rattle.hs_expression_forms.specs.Trees.{Trees, within}
 use Rattle.hs_expression_forms.specs.Expressions.{few, last_part, is_exp, depth_of_exp, exps, exp_goes_on, goes_on}
-use Rattle.hs_expression_forms.specs.Fronts.{Front, front_tokens, front_formed, front_deep, front_goes_on, fronts, Bunch}
+use Rattle.hs_expression_forms.specs.Fronts.{front_tokens, front_formed, front_deep, front_goes_on, fronts, Bunch}
 use Rattle.hs_expression_forms.specs.Fronts.{is_section, is_empty, bunch_goes_on, bunches}
 use Rattle.hs_expression_forms.proofs.ListedLemmas.{few_within, within_few, last_more, Lists}
 
@@ -37,9 +39,9 @@ comma_quiet o a r t.Comma h = all o a r
 comma_quiet o a r _ h = absurd (true≢false (sym h))
 
 pub front_comma : (h : Front) (k : Terminal) → is_comma k ≡ true → front_goes_on h k ≡ false
-front_comma (inl e) k h = comma_quiet true true (facts_of_exp e).ends_in_type k h
-front_comma (inr p) t.Comma h = refl
-front_comma (inr p) _ h = absurd (true≢false (sym h))
+front_comma (fr.Exp e) k h = comma_quiet true true (facts_of_exp e).ends_in_type k h
+front_comma (fr.Section p op) t.Comma h = refl
+front_comma (fr.Section p op) _ h = absurd (true≢false (sym h))
 
 pub exp_lists : Lists exps (t.Comma ∷ []) is_comma
 exp_lists = record {
@@ -49,9 +51,9 @@ exp_lists = record {
 
 not_section : (h : Front) (xs : List ExpTree) (x : ExpTree) (ys : List ExpTree) →
     not (is_section h) || is_empty (xs ++ x ∷ ys) ≡ true → is_section h ≡ false
-not_section (inl e) xs x ys h = refl
-not_section (inr p) [] x ys h = absurd (true≢false (sym h))
-not_section (inr p) (z ∷ xs) x ys h = absurd (true≢false (sym h))
+not_section (fr.Exp e) xs x ys h = refl
+not_section (fr.Section p op) [] x ys h = absurd (true≢false (sym h))
+not_section (fr.Section p op) (z ∷ xs) x ys h = absurd (true≢false (sym h))
 
 section_off : (b c : Bool) → b ≡ false → not b || c ≡ true
 section_off true c h = absurd (true≢false h)
@@ -107,8 +109,8 @@ module _ (limit : Option ℕ) where
       )
 
   pub empty_ok : (h : Front) → not (is_section h) || true ≡ true
-  empty_ok (inl e) = refl
-  empty_ok (inr p) = refl
+  empty_ok (fr.Exp e) = refl
+  empty_ok (fr.Section p op) = refl
 
   abbrev pub bunch_chain : Chain Terminal Bunch Front ExpTree
   bunch_chain = record {

@@ -30,12 +30,14 @@ use Rattle.hs_modules.specs.declared.expressions.ExpTree.TheVariants as v
 use Rattle.hs_modules.specs.declared.expressions.InfixTree.{InfixTree}
 use Rattle.hs_modules.proofs.FoldingLemmas.{ExpTrees, exp_folded}
 use Rattle.hs_modules.proofs.PartDepthLemmas.{type_depth_is}
+use Rattle.hs_expression_forms.specs.declared.front.Front.{Front}
+use Rattle.hs_expression_forms.specs.declared.front.Front.TheVariants as fr
 use Rattle.hs_expression_forms.specs.Trees.{Trees, within, Took, Failed, Embeds}
 use Rattle.hs_expression_forms.specs.Expressions.{is_infix, depth_of_infix, is_exp, depth_of_exp, goes_on, exps, infixes}
 use Rattle.hs_expression_forms.specs.Expressions.{types, is_double_colon, exp_goes_on, infix_goes_on, starts_aexp}
 use Rattle.hs_expression_forms.specs.Expressions.{starts_qop, starts_exp, starts_operand}
 use Rattle.hs_expression_forms.specs.Links.{Links, links}
-use Rattle.hs_expression_forms.specs.Fronts.{Front, front_tokens, front_formed, front_deep, front_goes_on, fronts}
+use Rattle.hs_expression_forms.specs.Fronts.{front_tokens, front_formed, front_deep, front_goes_on, fronts}
 use Rattle.hs_expression_forms.proofs.StarterLemmas.{goes_on_fewer, type_quiet}
 use Rattle.hs_expression_forms.proofs.PieceLemmas.{not_on, not_off}
 
@@ -89,8 +91,8 @@ infix_one x y e = cc
 
 -- the front that a chain is
 abbrev pub front_of : Links → Front
-front_of (x, None) = inl (v.Infix x)
-front_of (x, Some op) = inr (x, op)
+front_of (x, None) = fr.Exp (v.Infix x)
+front_of (x, Some op) = fr.Section x op
 
 front_of_tokens : (lone : Bool) (l : Links) → front_tokens (front_of l) ≡ (links lone).tokens l
 front_of_tokens lone (x, None) = plain_spelled x ∙ sym (append-nil (spelling_infix x))
@@ -107,7 +109,7 @@ pub data FrontCase (lone : Bool) (limit : Option ℕ) (other : Front) (s after :
       begins ((links lone).extends l) after ≡ false →
       ((x : InfixTree) → l ≡ (x, None) → begins is_double_colon after ≡ false) →
       s ≡ (links lone).tokens l ++ after → FrontCase lone limit other s after
-  of_typed : (x : InfixTree) (ty : TypeTree) → other ≡ inl (v.Annotated x ty) → (within (links lone) limit).Good (x, None) →
+  of_typed : (x : InfixTree) (ty : TypeTree) → other ≡ fr.Exp (v.Annotated x ty) → (within (links lone) limit).Good (x, None) →
       (facts_of_infix x).is_open ≡ false → is_type ty ≡ true → Within limit (max (depth_of_infix x) (depth_of_type ty) + 1) →
       begins (types.extends ty) after ≡ false →
       s ≡ (links lone).tokens (x, None) ++ t.DoubleColon ∷ (spelling_type ty ++ after) → FrontCase lone limit other s after
@@ -115,15 +117,15 @@ pub data FrontCase (lone : Bool) (limit : Option ℕ) (other : Front) (s after :
 module _ (lone : Bool) (limit : Option ℕ) where
   front_case : (other : Front) (s after : Ts) → (within (fronts lone) limit).Good other →
       begins (front_goes_on other) after ≡ false → s ≡ front_tokens other ++ after → FrontCase lone limit other s after
-  front_case (inr p) s after good quiet e = of_links (p.0, Some p.1) refl good quiet (λ x is. absurd (some_none p.1 (ap (λ (l : Links). l.1) is))) e
+  front_case (fr.Section x op) s after good quiet e = of_links (x, Some op) refl good quiet (λ x is. absurd (some_none op (ap (λ (l : Links). l.1) is))) e
     where
       some_none : (op : QOpTree) → Some op ≡ None → ⊥
       some_none op h = cc
-  front_case (inl x) s after good quiet e = by (exp_case x)
+  front_case (fr.Exp x) s after good quiet e = by (exp_case x)
     where
-      by : ExpCase x → FrontCase lone limit (inl x) s after
+      by : ExpCase x → FrontCase lone limit (fr.Exp x) s after
       by (is_plain c is) =
-          of_links (c, None) (ap inl is) (
+          of_links (c, None) (ap fr.Exp is) (
             sym (ap good_of (plain_facts c)) ∙ ap is_exp (sym is) ∙ good.0,
             subst (Within limit) (ap (λ y. depth_of_exp y) is ∙ plain_deep c) good.1,
           )
@@ -138,7 +140,7 @@ module _ (lone : Bool) (limit : Option ℕ) where
           let g = sym (ap good_of (typed_facts c ty)) ∙ ap is_exp (sym is) ∙ good.0 in
           let both = and_left (is_infix c && not (facts_of_infix c).is_open) _ g in
           let deep = subst (Within limit) (ap (λ y. depth_of_exp y) is ∙ typed_deep c ty) good.1 in
-          of_typed c ty (ap inl is) (and_left (is_infix c) _ both, within_less limit _ _ (omega arith) deep)
+          of_typed c ty (ap fr.Exp is) (and_left (is_infix c) _ both, within_less limit _ _ (omega arith) deep)
           (not_on (facts_of_infix c).is_open (and_right (is_infix c) _ both))
           (and_right (is_infix c && not (facts_of_infix c).is_open) _ g) deep
           (begins_within (exp_goes_on (facts_of_exp x)) (types.extends ty) after
@@ -160,7 +162,7 @@ module _ (lone : Bool) (limit : Option ℕ) where
 
   typed_good : (x : InfixTree) (ty : TypeTree) → (within (links lone) limit).Good (x, None) →
       (facts_of_infix x).is_open ≡ false → Within limit (depth_of_infix x + 1) → (within types (lowered limit 1)).Good ty →
-      (within (fronts lone) limit).Good (inl (v.Annotated x ty))
+      (within (fronts lone) limit).Good (fr.Exp (v.Annotated x ty))
   typed_good x ty good shut room g = (
     ap good_of (typed_facts x ty) ∙ and_from _ _ (and_from (is_infix x) _ good.0 (not_off (facts_of_infix x).is_open shut)) g.0,
     subst (Within limit) (sym (typed_deep x ty)) (within_max limit (depth_of_infix x) (depth_of_type ty) 1 room
@@ -224,7 +226,7 @@ module _ (lone : Bool) (limit : Option ℕ) where
     front = (links lone).tokens (x, None)
 
     only_typed : (s : Ts) (other : Front) (after : Ts) → SameStart here s → FrontCase lone limit other (front ++ s) after →
-        (ty : TypeTree) × (other ≡ inl (v.Annotated x ty)) × (is_type ty ≡ true)
+        (ty : TypeTree) × (other ≡ fr.Exp (v.Annotated x ty)) × (is_type ty ≡ true)
         × Within limit (max (depth_of_infix x) (depth_of_type ty) + 1) × (begins (types.extends ty) after ≡ false)
         × (s ≡ t.DoubleColon ∷ (spelling_type ty ++ after))
     only_typed s other after same (of_links k is good quiet plain e) =
@@ -236,7 +238,7 @@ module _ (lone : Bool) (limit : Option ℕ) where
         (closed_quiet y (spelling_type ty ++ after) shut') e in
         let same' : y ≡ x = ap (λ (l : Links). l.0) found.0 in (
           ty,
-          is ∙ ap (λ z. inl (v.Annotated z ty)) same',
+          is ∙ ap (λ z. fr.Exp (v.Annotated z ty)) same',
           ok,
           subst (λ z. Within limit (max (depth_of_infix z) (depth_of_type ty) + 1)) same' deep,
           quiet,
@@ -244,7 +246,7 @@ module _ (lone : Bool) (limit : Option ℕ) where
         )
 
     refused_typed : (before bad : Ts) → here ≡ before ++ bad → (more : Ts) (ty : TypeTree) →
-        (within (fronts lone) limit).Good (inl (v.Annotated x ty)) → before ++ more ≡ t.DoubleColon ∷ spelling_type ty →
+        (within (fronts lone) limit).Good (fr.Exp (v.Annotated x ty)) → before ++ more ≡ t.DoubleColon ∷ spelling_type ty →
         ((s : Ts) (ty : TypeTree) (after : Ts) → SameStart bad s → is_type ty ≡ true →
         Within limit (max (depth_of_infix x) (depth_of_type ty) + 1) → begins (types.extends ty) after ≡ false →
         before ++ s ≡ t.DoubleColon ∷ (spelling_type ty ++ after) → ⊥) →
@@ -252,7 +254,7 @@ module _ (lone : Bool) (limit : Option ℕ) where
     refused_typed before bad split more ty good spelled never = record {
       begun = (
         more,
-        inl (v.Annotated x ty),
+        fr.Exp (v.Annotated x ty),
         good,
         append_assoc front before more ∙ ap (λ l. front ++ l) spelled
             ∙ ap (λ l. l ++ t.DoubleColon ∷ spelling_type ty) (append-nil (spelling_infix x)) ∙ sym (typed_spelled x ty),
@@ -299,7 +301,7 @@ module _ (lone : Bool) (limit : Option ℕ) where
         (is, within_lowered limit (depth_of_type ty) 1 (within_less limit _ _ (omega arith) deep)) quiet (uncons _ _ _ e)))) r
 
     pub typed_took : Within limit (m + 1) → (ty : TypeTree) (rest : Ts) (n : ℕ) → Took types (lowered limit 1) next ty rest n →
-        Took (fronts lone) limit ts (inl (v.Annotated x ty)) rest (max m n + 1)
+        Took (fronts lone) limit ts (fr.Exp (v.Annotated x ty)) rest (max m n + 1)
     typed_took room ty rest n q = record {
       spelled = acc.spelled ∙ ap (λ l. front ++ l) (at ∙ ap (λ l. t.DoubleColon ∷ l) q.spelled)
           ∙ sym (append_assoc front (t.DoubleColon ∷ spelling_type ty) rest)
@@ -318,7 +320,7 @@ module _ (lone : Bool) (limit : Option ℕ) where
             let type_is = q.reads.only s found.0 after same
             (found.2, within_lowered limit (depth_of_type found.0) 1 (within_less limit _ _ (omega arith) found.3))
             found.4 (uncons _ _ _ found.5) in
-            (found.1 ∙ ap (λ z. inl (v.Annotated x z)) type_is.0, type_is.1);
+            (found.1 ∙ ap (λ z. fr.Exp (v.Annotated x z)) type_is.0, type_is.1);
       };
       measured_is = ap (λ k. max k n + 1) acc.measured_is ∙ ap (λ k. max (depth_of_infix x) k + 1) q.measured_is
           ∙ sym (typed_deep x ty);
@@ -343,16 +345,16 @@ pub infix_back : (l : Links) → (links false).formed l ≡ true → (x : InfixT
 infix_back = none_only
 
 abbrev exp_front : ExpTree → Front
-exp_front e = inl e
+exp_front e = fr.Exp e
 
 exp_one : (x y : ExpTree) → exp_front x ≡ exp_front y → x ≡ y
 exp_one x y e = ap get e
   where
     get : Front → ExpTree
-    get (inl z) = z
-    get (inr p) = x
+    get (fr.Exp z) = z
+    get (fr.Section z op) = x
 
-pub exp_embeds : (lone : Bool) → Embeds exps (fronts lone) inl
+pub exp_embeds : (lone : Bool) → Embeds exps (fronts lone) exp_front
 exp_embeds lone = record {
   tokens = λ x. refl;
   formed = λ x. refl;
@@ -361,6 +363,6 @@ exp_embeds lone = record {
   one = exp_one;
 }
 
-pub exp_back : (y : Front) → (fronts false).formed y ≡ true → (x : ExpTree) × (y ≡ inl x)
-exp_back (inl x) h = (x, refl)
-exp_back (inr p) h = absurd (true≢false (sym h))
+pub exp_back : (y : Front) → (fronts false).formed y ≡ true → (x : ExpTree) × (y ≡ exp_front x)
+exp_back (fr.Exp x) h = (x, refl)
+exp_back (fr.Section x op) h = absurd (true≢false (sym h))

@@ -16,3 +16,4 @@ pub mod FrontLemmas
 pub mod BunchLemmas
 pub mod AExpLemmas
 pub mod RowLemmas
+pub mod OpenLemmas

@@ -64,20 +64,20 @@ infix_spelled x =
     ap spelling_infix (sym (roll-out-InfixTree x)) ∙ infix_folded token_algebra (out-InfixTree x)
     ∙ ap (λ ts. spelling_signed (out-InfixTree x).first ++ ts) (flat_map-map (λ y. y) spelling_link (out-InfixTree x).rest)
 
-signed_facts : (s : SignedOperand) → facts_of_signed s ≡ facts_of_operand (operand_of s)
+pub signed_facts : (s : SignedOperand) → facts_of_signed s ≡ facts_of_operand (operand_of s)
 unfolding fact_algebra
 signed_facts s = ap facts_of_signed (sym (roll-out-SignedOperand s)) ∙ signed_folded fact_algebra (out-SignedOperand s)
 
-link_facts : (x : OpOperand) → facts_of_link x ≡ facts_of_operand (operand_of (out-OpOperand x).operand)
+pub link_facts : (x : OpOperand) → facts_of_link x ≡ facts_of_operand (operand_of (out-OpOperand x).operand)
 unfolding fact_algebra
 link_facts x =
     ap facts_of_link (sym (roll-out-OpOperand x)) ∙ link_folded fact_algebra (out-OpOperand x)
     ∙ signed_facts (out-OpOperand x).operand
 
-abbrev last_fact : InfixTree → Facts
+abbrev pub last_fact : InfixTree → Facts
 last_fact x = last_of (facts_of_signed (out-InfixTree x).first) (map facts_of_link (out-InfixTree x).rest)
 
-infix_facts : (x : InfixTree) → facts_of_infix x ≡ record {
+pub infix_facts : (x : InfixTree) → facts_of_infix x ≡ record {
   good = ((facts_of_signed (out-InfixTree x).first).good && all_of (map good_of (map facts_of_link (out-InfixTree x).rest)))
       && closed_front (facts_of_signed (out-InfixTree x).first) (map facts_of_link (out-InfixTree x).rest);
   is_open = (last_fact x).is_open;

@@ -14,30 +14,28 @@ use Rattle.hs_modules.specs.Formed.{facts_of_exp, facts_of_infix}
 use Rattle.hs_modules.specs.declared.names.QOpTree.{QOpTree}
 use Rattle.hs_modules.specs.declared.expressions.ExpTree.{ExpTree}
 use Rattle.hs_modules.specs.declared.expressions.InfixTree.{InfixTree}
+use Rattle.hs_expression_forms.specs.declared.front.Front.{Front}
+use Rattle.hs_expression_forms.specs.declared.front.Front.TheVariants as fr
 use Rattle.hs_expression_forms.specs.Trees.{Trees, ended, row}
 use Rattle.hs_expression_forms.specs.Expressions.{is_exp, depth_of_exp, is_infix, depth_of_infix, exp_goes_on, few, exps}
 use Rattle.hs_expression_forms.specs.Expressions.{infixes}
 use Rattle.hs_expression_forms.specs.Expressions.{starts_operand, starts_qop, last_part}
 
--- an expression, or a chain and an operator
-abbrev pub Front : Type 0
-Front = ExpTree ⊎ (InfixTree × QOpTree)
-
 abbrev pub front_tokens : Front → Ts
-front_tokens (inl e) = spelling_exp e
-front_tokens (inr p) = spelling_infix p.0 ++ qop_tokens p.1
+front_tokens (fr.Exp e) = spelling_exp e
+front_tokens (fr.Section x op) = spelling_infix x ++ qop_tokens op
 
 abbrev pub front_formed : Bool → Front → Bool
-front_formed lone (inl e) = is_exp e
-front_formed lone (inr p) = lone && (is_infix p.0 && not (facts_of_infix p.0).is_open)
+front_formed lone (fr.Exp e) = is_exp e
+front_formed lone (fr.Section x op) = lone && (is_infix x && not (facts_of_infix x).is_open)
 
 abbrev pub front_deep : Front → ℕ
-front_deep (inl e) = depth_of_exp e
-front_deep (inr p) = depth_of_infix p.0
+front_deep (fr.Exp e) = depth_of_exp e
+front_deep (fr.Section x op) = depth_of_infix x
 
 abbrev pub front_goes_on : Front → Terminal → Bool
-front_goes_on (inl e) k = exp_goes_on (facts_of_exp e) k
-front_goes_on (inr p) k = starts_operand k || starts_qop k
+front_goes_on (fr.Exp e) k = exp_goes_on (facts_of_exp e) k
+front_goes_on (fr.Section x op) k = starts_operand k || starts_qop k
 
 -- Expressions, and the fronts of left sections where such may stand.
 abbrev pub fronts : Bool → Trees Terminal Front
@@ -48,8 +46,8 @@ abbrev pub Bunch : Type 0
 Bunch = Front × List ExpTree
 
 abbrev pub is_section : Front → Bool
-is_section (inl e) = false
-is_section (inr p) = true
+is_section (fr.Exp e) = false
+is_section (fr.Section x op) = true
 
 abbrev pub is_empty : {A : Type 0} → List A → Bool
 is_empty [] = true
@@ -74,8 +72,8 @@ abbrev pub Inside : Type 0
 Inside = (ExpTree × List ExpTree) ⊎ (InfixTree × QOpTree)
 
 abbrev pub bunch_of : Inside → Bunch
-bunch_of (inl p) = (inl p.0, p.1)
-bunch_of (inr p) = (inr p, [])
+bunch_of (inl p) = (fr.Exp p.0, p.1)
+bunch_of (inr p) = (fr.Section p.0 p.1, [])
 
 -- what stands between round brackets, with the closing one
 abbrev pub insides : Trees Terminal Inside

@@ -1,0 +1,11 @@
+//! Readers of Haskell's expressions (Haskell 2010 Report, chapter 3).
+#![tactic(auto)]
+
+mod leaf;
+mod qop;
+
+pub use leaf::{
+    after_backslash, after_case, after_double_colon, after_else, after_if, after_in, after_let,
+    after_of, after_then, begins_aexp, begins_exp, begins_minus, begins_qop,
+};
+pub use qop::read_qop;
