@@ -1,7 +1,7 @@
 //! Types, kinds and declarations, read from texts in which a name is one letter: a capital letter is a type's name, a small one a
 //! variable. Types and kinds are postfix: `f a @` applies f to a, and `* * >` is the kind `* -> *`.
-use bp_base::{Ident, Kind, Name, Names, OrigName, Space, Ty};
-use hs_core::{ConDecl, FieldDecl, Written};
+use bp_base::{Entities, Ident, Kind, Name, Names, OrigName, Space, Ty, base_prelude};
+use hs_core::{ConDecl, FieldDecl, Written, base_interface};
 use kind_check::{GroupDecl, GroupDecls, Known, Knowns, Says, Sense};
 use sqlite_items::{Boxed, Items};
 use std::alloc::{AllocError, Global};
@@ -240,4 +240,57 @@ pub fn show(kind: &Kind, out: &mut Vec<u8>) -> Result<(), AllocError> {
         }
     }
     Ok(())
+}
+
+/// A name of the module `Prelude` of `base`.
+pub fn base_name(alloc: Global, occ: &[u8]) -> Result<OrigName, AllocError> {
+    Ok(OrigName {
+        at: base_prelude(alloc)?,
+        space: Space::Types,
+        occ: Name::from_bytes(alloc, occ)?,
+    })
+}
+
+fn put_word(alloc: Global, word: &[u8], types: &mut Vec<Written>) -> Result<(), AllocError> {
+    let next = match word {
+        b"@" => match (types.pop(), types.pop()) {
+            (Some(arg), Some(fun)) => applied(alloc, fun, arg)?,
+            _ => return Ok(()),
+        },
+        [b'a'..=b'z', ..] => Written::WVar {
+            name: Name::from_bytes(alloc, word)?,
+        },
+        _ => Written::WCon {
+            name: base_name(alloc, word)?,
+        },
+    };
+    types.push(next)?;
+    Ok(())
+}
+
+/// The type of words, whose names are those of `base`.
+pub fn base_type_of(alloc: Global, text: &[u8]) -> Result<Written, AllocError> {
+    let mut types = Vec::new(alloc);
+    for word in text.split(|b| *b == b' ') {
+        put_word(alloc, word, &mut types)?;
+    }
+    match types.pop() {
+        Some(ty) => Ok(ty),
+        None => Ok(Written::WVar {
+            name: Name::from_bytes(alloc, b"a")?,
+        }),
+    }
+}
+
+/// What `base` exports, the last first.
+pub fn base_entities(alloc: Global) -> Result<Entities, AllocError> {
+    let interface = base_interface(alloc)?;
+    let mut exports = interface.exports;
+    let mut entities = Items::new(alloc);
+    for _index in 0..exports.len() {
+        if let Some(export) = exports.pop() {
+            entities.push(export.entity)?;
+        }
+    }
+    Ok(entities)
 }

@@ -84,3 +84,17 @@ pub const LAWFUL: &[u8] = b"\
 |A0*=B;B0*=I;I*|-
 ||-
 ";
+
+/// Written types over the names of `base`, in words: `type||kind`, with `!` and `?` as above.
+pub const BASE_TYPES: &[u8] = b"\
+Maybe Int @||*
+Int Int @||!
+Maybe||**>
+String||*
+[] Char @||*
+(,) a @||**>
+-> a @ a @||*
+Maybe Maybe @||!
+IO () @||*
+Nothing||!
+";

@@ -1,7 +1,13 @@
 //! Each case of the tables has its answer.
-use crate::reading::{decls_of, names_of, resolved_of, show, show_type, type_of};
-use crate::tables::{EXPANSIONS, GROUPS, LAWFUL, MODULES, TYPES};
+use crate::reading::{
+    base_entities, base_name, base_type_of, decls_of, names_of, resolved_of, show, show_type,
+    type_of,
+};
+use crate::tables::{BASE_TYPES, EXPANSIONS, GROUPS, LAWFUL, MODULES, TYPES};
+use bp_base::{Kind, Ty};
+use hs_core::Written;
 use kind_check::{GroupError, KindEnv, TypeError, TypeGroup, kind_of_type, kinds_of};
+use kind_env::env_of;
 use std::alloc::{AllocError, Global};
 use std::test::Fail;
 use type_expand::{ExpandError, expand, first_unlawful};
@@ -12,6 +18,7 @@ use type_groups::{ModuleKinds, kinds_of_module};
 enum Asked {
     Groups,
     Types,
+    BaseTypes,
     Modules,
     Expansions,
     Lawful,
@@ -38,10 +45,9 @@ fn group_answer(alloc: Global, text: &[u8], env: &KindEnv) -> Result<Vec<u8>, Al
     Ok(out)
 }
 
-fn type_answer(alloc: Global, text: &[u8], env: &KindEnv) -> Result<Vec<u8>, AllocError> {
+fn type_answer(alloc: Global, ty: &Written, env: &KindEnv) -> Result<Vec<u8>, AllocError> {
     let mut out = Vec::new(alloc);
-    let ty = type_of(alloc, text)?;
-    match kind_of_type(alloc, &ty, env) {
+    match kind_of_type(alloc, ty, env) {
         Ok(kind) => show(&kind, &mut out)?,
         Err(TypeError::Kind) => out.push(b'!')?,
         Err(TypeError::SynonymUse) => out.push(b'?')?,
@@ -106,7 +112,11 @@ fn is_right(alloc: Global, asked: Asked, line: &[u8]) -> Result<bool, AllocError
     let want = parts.next().unwrap_or(b"");
     let answer = match asked {
         Asked::Groups => group_answer(alloc, text, &env)?,
-        Asked::Types => type_answer(alloc, text, &env)?,
+        Asked::Types => type_answer(alloc, &type_of(alloc, text)?, &env)?,
+        Asked::BaseTypes => {
+            let base = env_of(alloc, &base_entities(alloc)?)?;
+            type_answer(alloc, &base_type_of(alloc, text)?, &base)?
+        }
         Asked::Modules => module_answer(alloc, text, env)?,
         Asked::Expansions => expansion_answer(alloc, text, &env)?,
         Asked::Lawful => lawful_answer(alloc, &env)?,
@@ -135,6 +145,28 @@ fn groups_have_their_kinds(rt: HostRuntime) -> Result<(), Fail> {
 #[test]
 fn written_types_have_their_kinds(rt: HostRuntime) -> Result<(), Fail> {
     assert_eq!(rt; first_wrong(rt.alloc(), Asked::Types, TYPES)?, 0);
+    Ok(())
+}
+
+#[test]
+fn types_over_base_have_their_kinds(rt: HostRuntime) -> Result<(), Fail> {
+    assert_eq!(rt; first_wrong(rt.alloc(), Asked::BaseTypes, BASE_TYPES)?, 0);
+    Ok(())
+}
+
+#[test]
+fn a_string_is_a_list_of_characters(rt: HostRuntime) -> Result<(), Fail> {
+    let alloc = rt.alloc();
+    let base = env_of(alloc, &base_entities(alloc)?)?;
+    let text = Ty::Con {
+        name: base_name(alloc, b"String")?,
+        kind: Kind::Star,
+    };
+    let mut out = Vec::new(alloc);
+    if let Ok(whole) = expand(alloc, &text, &base) {
+        show_type(&whole, &mut out)?;
+    }
+    assert!(rt; out.as_slice() == b"[]Char@".as_slice());
     Ok(())
 }
 

@@ -1,0 +1,188 @@
+-- Lists of names that grow, and what names mean by them.
+use Rattle.std.proofs.Common.{◌≡◌, ℕ, zero, suc, ◌+◌, ◌-◌, ◌<◌, ◌≤◌, Bool, true, false, List, [], ◌∷◌, ◌++◌, length}
+use Rattle.std.proofs.Common.{get_or, take}
+use Rattle.std.proofs.Common.{inl, inr, refl, sym, ap, ap₂, subst, ◌∙◌, arith}
+use Rattle.std.specs.Prelude.{◌↔◌, map, flat_map, replicate, Option, Some, None, if◌then◌else◌}
+use Rattle.std.proofs.lemmas.List.{append-nil, append_assoc}
+use Rattle.bp_base.specs.declared.ty.OrigName.{OrigName}
+use Rattle.bp_base.specs.declared.ty.Kind.{Kind}
+use Rattle.bp_base.specs.declared.ty.Kind.TheVariants.{Arrow, Star}
+use Rattle.bp_base.specs.declared.ty.Ty.{Ty}
+use Rattle.bp_base.specs.declared.ty.Ty.TheVariants.{App}
+use Rattle.bp_base.specs.declared.ty.Ty.TheBlock.{hidden-the_row-Ty-0}
+use denote.Hole.Carrier.{hidden}
+use Rattle.bp_base.specs.declared.special.Special.{Special}
+use Rattle.hs_core.specs.Types.{KindTerm, star, arrow, arrows, kind_term}
+use Rattle.hs_core.specs.Expansion.{Synonym}
+use Rattle.hs_core.specs.Sameness.{same_original}
+use Rattle.hs_core.proofs.SamenessLemmas.{original_itself, original_same}
+use Rattle.hs_core.specs.Globals.{Named, NameMeaning, Globals, kind_in, synonym_in, in_front, no_names, noted_in}
+use Rattle.hs_core.specs.Globals.{special_types, special_constructors}
+use Rattle.kind_check.specs.declared.scope.Known.{Known}
+use Rattle.kind_check.specs.Scopes.{known_names, sense_kind}
+use Rattle.kind_check.specs.Answers.{known_synonyms, sense_synonym}
+use Rattle.kind_check.proofs.ArmLemmas.{kind_arrow}
+use Rattle.kind_env.specs.Listings.{Lists, AreListed, Adds, type_of_special, value_of_special, nth_type, nth_value}
+use Rattle.kind_env.specs.Listings.{firsts}
+
+pub kind_from_star : (t : Kind) → kind_term (Arrow Star t) ≡ arrow star (kind_term t)
+kind_from_star t = kind_arrow Star t
+
+-- one parameter more
+pub kind_next : (k j : KindTerm) (n : ℕ) → k ≡ arrow star j → j ≡ arrows (replicate n star) star
+    → k ≡ arrows (replicate (n + 1) star) star
+kind_next k j n g h =
+    let s : suc n ≡ n + 1 = omega arith in
+    g ∙ ap (arrow star) h ∙ ap (λ m. arrows (replicate m star) star) s
+
+-- ---- names that join
+
+AreListed-append : (xs ys : List Named) (es fs : List Known) → AreListed xs es → AreListed ys fs
+    → AreListed (xs ++ ys) (es ++ fs)
+AreListed-append [] ys es fs h k = subst (λ z. AreListed ys (z ++ fs)) (sym h) k
+AreListed-append (x ∷ xs) ys [] fs h k = absurd h
+AreListed-append (x ∷ xs) ys (e ∷ es) fs h k = (h.0, AreListed-append xs ys es fs h.1 k)
+
+pub adds_nothing : (old new : List Known) → new ≡ old → Adds [] old new
+adds_nothing old new e = record { more = []; behind = e ∙ sym (append-nil old); listed = refl }
+
+pub adds_both : (xs ys : List Named) (old mid new : List Known) → Adds xs old mid → Adds ys mid new
+    → Adds (xs ++ ys) old new
+adds_both xs ys old mid new p q = record {
+  more = p.more ++ q.more;
+  behind = q.behind ∙ ap (λ z. z ++ q.more) p.behind ∙ append_assoc old p.more q.more;
+  listed = AreListed-append xs ys p.more q.more p.listed q.listed;
+}
+
+pub adds_one : (x : Named) (e : Known) (old new : List Known) → new ≡ old ++ e ∷ [] → e.name ≡ x.name
+    → sense_kind e.sense ≡ kind_in (Some x.means) → sense_synonym e.sense ≡ synonym_in (Some x.means)
+    → Adds (x ∷ []) old new
+adds_one x e old new b n k s =
+    record { more = e ∷ []; behind = b; listed = (record { named = n; kind = k; synonym = s }, refl) }
+
+pub adds_same : (xs ys : List Named) (old new : List Known) → xs ≡ ys → Adds xs old new → Adds ys old new
+adds_same xs ys old new e h = subst (λ z. Adds z old new) e h
+
+-- ---- loops
+
+flat-suc : {A B : Type 0} (f : A → List B) (xs : List A) (i : ℕ) (d : A) → i < length xs
+    → flat_map f (take (suc i) xs) ≡ flat_map f (take i xs) ++ f (get_or xs i d)
+flat-suc f [] i d l = absurd (omega (arith, l))
+flat-suc f (x ∷ xs) zero d l = append-nil (f x)
+flat-suc f (x ∷ xs) (suc i) d l =
+    ap (λ ys. f x ++ ys) (flat-suc f xs i d (omega (arith, l)))
+    ∙ sym (append_assoc (f x) (flat_map f (take i xs)) (f (get_or xs i d)))
+
+map-suc : {A B : Type 0} (f : A → B) (xs : List A) (i : ℕ) (d : A) → i < length xs
+    → map f (take (suc i) xs) ≡ map f (take i xs) ++ f (get_or xs i d) ∷ []
+map-suc f [] i d l = absurd (omega (arith, l))
+map-suc f (x ∷ xs) zero d l = refl
+map-suc f (x ∷ xs) (suc i) d l = ap (λ ys. f x ∷ ys) (map-suc f xs i d (omega (arith, l)))
+
+pub adds_next : {A : Type 0} (f : A → List Named) (xs : List A) (i : ℕ) (x d : A) (old mid new : List Known)
+    → i < length xs → x ≡ get_or xs i d → Adds (flat_map f (take i xs)) old mid → Adds (f x) mid new
+    → Adds (flat_map f (take (i + 1) xs)) old new
+adds_next f xs i x d old mid new l e p q =
+    let s : suc i ≡ i + 1 = omega arith in
+    subst (λ j. Adds (flat_map f (take j xs)) old new) s
+    (subst (λ z. Adds z old new)
+    (ap (λ y. flat_map f (take i xs) ++ f y) e ∙ sym (flat-suc f xs i d l))
+    (adds_both (flat_map f (take i xs)) (f x) old mid new p q))
+
+pub adds_next_one : {A : Type 0} (f : A → Named) (xs : List A) (i : ℕ) (x d : A) (old mid new : List Known)
+    → i < length xs → x ≡ get_or xs i d → Adds (map f (take i xs)) old mid → Adds (f x ∷ []) mid new
+    → Adds (map f (take (i + 1) xs)) old new
+adds_next_one f xs i x d old mid new l e p q =
+    let s : suc i ≡ i + 1 = omega arith in
+    subst (λ j. Adds (map f (take j xs)) old new) s
+    (subst (λ z. Adds z old new)
+    (ap (λ y. map f (take i xs) ++ f y ∷ []) e ∙ sym (map-suc f xs i d l))
+    (adds_both (map f (take i xs)) (f x ∷ []) old mid new p q))
+
+take_whole : {A : Type 0} (xs : List A) → take (length xs) xs ≡ xs
+take_whole [] = refl
+take_whole (x ∷ xs) = ap (λ ys. x ∷ ys) (take_whole xs)
+
+pub take_end : {A : Type 0} (xs : List A) (i : ℕ) → i ≡ length xs → take i xs ≡ xs
+take_end xs i e = ap (λ j. take j xs) e ∙ take_whole xs
+
+map-push : {A B : Type 0} (f : A → B) (xs : List A) (x : A) → map f (xs ++ x ∷ []) ≡ map f xs ++ f x ∷ []
+map-push f [] x = refl
+map-push f (y ∷ ys) x = ap (λ zs. f y ∷ zs) (map-push f ys x)
+
+pub adds_nth : (g : Special → Named) (f : ℕ → Special) (i : ℕ) (x : Special) (old mid new : List Known) → x ≡ f i
+    → Adds (map g (firsts f i)) old mid → Adds (g x ∷ []) mid new → Adds (map g (firsts f (i + 1))) old new
+adds_nth g f i x old mid new e p q =
+    let s : suc i ≡ i + 1 = omega arith in
+    subst (λ j. Adds (map g (firsts f j)) old new) s
+    (subst (λ z. Adds z old new)
+    (ap (λ y. map g (firsts f i) ++ g y ∷ []) e ∙ sym (map-push g (firsts f i) (f i)))
+    (adds_both (map g (firsts f i)) (g x ∷ []) old mid new p q))
+
+pub all_types : map type_of_special (firsts nth_type 17) ≡ special_types
+all_types = refl
+
+pub all_values : map value_of_special (firsts nth_value 17) ≡ special_constructors
+all_values = refl
+
+pub noted_app : (f a : Ty) → noted_in (App f a) ≡ noted_in f ++ noted_in a
+unfolding hidden-the_row-Ty-0 hidden
+noted_app f a = refl
+
+-- ---- what names mean
+
+abbrev meaning : List Named → OrigName → Option NameMeaning
+meaning xs n = in_front xs no_names n
+
+pub listed_kinds : (xs : List Named) (es : List Known) (n : OrigName) (k : KindTerm) → AreListed xs es
+    → known_names es n k ↔ (kind_in (meaning xs n) ≡ Some k)
+listed_kinds [] es n k h = (
+  λ p. absurd (subst (λ z. known_names z n k) h p),
+  λ e. absurd (subst told e tt),
+)
+  where
+    told : Option KindTerm → Type 0
+    told (Some j) = ⊥
+    told None = Unit {0}
+listed_kinds (x ∷ xs) [] n k h = absurd h
+listed_kinds (x ∷ xs) (e ∷ es) n k h = go (same_original x.name n) refl (listed_kinds xs es n k h.1)
+  where
+    go : (b : Bool) → same_original x.name n ≡ b → known_names es n k ↔ (kind_in (meaning xs n) ≡ Some k)
+        → known_names (e ∷ es) n k ↔ (kind_in (meaning (x ∷ xs) n) ≡ Some k)
+    go true t rest =
+        let same : e.name ≡ n = h.0.named ∙ original_same x.name n t in
+        let is : kind_in (meaning (x ∷ xs) n) ≡ sense_kind e.sense = rw t (sym h.0.kind) in (
+          λ p. elim p [ inl q ↦ is ∙ q.1 | inr q ↦ absurd (q.0 same) ],
+          λ q. inl (same, sym is ∙ q),
+        )
+    go false t rest =
+        let other : e.name ≡ n → ⊥ = λ s.
+        differ (sym t ∙ ap (same_original x.name) (sym (sym h.0.named ∙ s)) ∙ original_itself x.name) in
+        let is : kind_in (meaning (x ∷ xs) n) ≡ kind_in (meaning xs n) = rw t refl in (
+          λ p. elim p [ inl q ↦ absurd (other q.0) | inr q ↦ is ∙ rest.0 q.1 ],
+          λ q. inr (other, rest.1 (sym is ∙ q)),
+        )
+      where
+        differ : false ≡ true → ⊥
+        differ w = subst told w tt
+          where
+            told : Bool → Type 0
+            told true = ⊥
+            told false = Unit {0}
+
+pub listed_synonyms : (xs : List Named) (es : List Known) (n : OrigName) → AreListed xs es
+    → known_synonyms es n ≡ synonym_in (meaning xs n)
+listed_synonyms [] es n h = ap (λ z. known_synonyms z n) h
+listed_synonyms (x ∷ xs) [] n h = absurd h
+listed_synonyms (x ∷ xs) (e ∷ es) n h = go (same_original x.name n) refl (listed_synonyms xs es n h.1)
+  where
+    go : (b : Bool) → same_original x.name n ≡ b → known_synonyms es n ≡ synonym_in (meaning xs n)
+        → known_synonyms (e ∷ es) n ≡ synonym_in (meaning (x ∷ xs) n)
+    go true t rest =
+        let s : same_original e.name n ≡ true = ap (λ z. same_original z n) h.0.named ∙ t in rw (s, t) h.0.synonym
+    go false t rest =
+        let s : same_original e.name n ≡ false = ap (λ z. same_original z n) h.0.named ∙ t in rw (s, t) rest
+
+-- what joined nothing is all
+pub listed_all : (xs : List Named) (old new : List Known) → Adds xs old new → old ≡ [] → AreListed xs new
+listed_all xs old new h e = subst (AreListed xs) (sym (h.behind ∙ ap (λ z. z ++ h.more) e)) h.listed
