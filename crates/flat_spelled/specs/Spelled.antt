@@ -1,0 +1,24 @@
+-- What the terminals of marks spell.
+use Rattle.std.specs.Prelude.{◌≡◌, true, None}
+use Rattle.hs_forms.specs.Whole.{Spells}
+use Rattle.hs_trees.specs.Types.{type_form}
+use Rattle.hs_trees.specs.Patterns.{pat_form}
+use Rattle.hs_trees.specs.declared.types.TypeTree.{TypeTree}
+use Rattle.hs_trees.specs.declared.patterns.PatTree.{PatTree}
+use Rattle.hs_core.specs.declared.tree.Written.{Written}
+use Rattle.hs_core.specs.declared.tree.Pat.{Pat}
+use Rattle.flat_text.specs.declared.name.Place.TheVariants as p
+use Rattle.flat_text.specs.Marks.{seen}
+use Rattle.flat_text.specs.TypeMarks.{type_marks}
+use Rattle.flat_text.specs.PatternMarks.{pat_marks}
+use Rattle.flat_spelled.specs.Printable.{is_printable_type, is_printable_pat}
+
+-- A printable type's text spells a type of the grammar, at any depth.
+abbrev pub TypesAreSpelled : Type 0
+TypesAreSpelled = (ty : Written) → is_printable_type ty ≡ true
+    → (tree : TypeTree) × Spells (type_form None) tree (seen (type_marks ty p.Whole))
+
+-- A printable pattern's text spells a pattern of the grammar, at any depth.
+abbrev pub PatternsAreSpelled : Type 0
+PatternsAreSpelled = (pat : Pat) → is_printable_pat pat ≡ true
+    → (tree : PatTree) × Spells (pat_form None) tree (seen (pat_marks pat))
