@@ -4,3 +4,4 @@ pub mod PrincipalLemmas
 pub mod NameLemmas
 pub mod UnitLemmas
 pub mod LinkLemmas
+pub mod LawfulLemmas

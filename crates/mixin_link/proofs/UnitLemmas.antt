@@ -1,6 +1,7 @@
 -- Units in identities that are filled, and the condition on the equations.
 use Rattle.std.proofs.Common.{◌≡◌, inl, inr, List, [], ◌∷◌, ◌++◌, map, refl, sym, ap, ◌∙◌, subst}
 use Rattle.std.specs.Prelude.{Option, Some, None, unwrap_or}
+use Rattle.std.specs.List.{flat_map}
 use Rattle.bp_base.specs.declared.ident.Ident.{Ident}
 use Rattle.bp_base.specs.declared.ident.Ident.TheVariants.{Hole, Module}
 use Rattle.bp_base.specs.declared.ident.Unit.{Unit as OfUnit, out-Unit}
@@ -9,7 +10,7 @@ use Rattle.bp_base.specs.declared.linking.Rename.{Rename}
 use Rattle.bp_base.specs.declared.linking.Provision.{Provision}
 use Rattle.bp_base.specs.Lists.{Among}
 use Rattle.bp_base.specs.Texts.{Text, Rise}
-use Rattle.bp_base.proofs.SetLemmas.{among-left, among-right, among-either, among-image}
+use Rattle.bp_base.proofs.SetLemmas.{among-left, among-right, among-either, among-image, among-map}
 use Rattle.bp_base.proofs.IdentLemmas.{EachFill, ident-induction}
 use Rattle.unit_identity.specs.Fill.{filled, filled_unit, composed, found}
 use Rattle.unit_identity.proofs.FillLemmas.{filled-Module}
@@ -23,7 +24,7 @@ use Rattle.mixin_names.specs.Names.{provided}
 use Rattle.mixin_link.specs.declared.open.OpenInclude.{OpenInclude}
 use Rattle.mixin_link.specs.declared.summary.Summary.{Summary}
 use Rattle.mixin_link.specs.Linkings.{fills_under}
-use Rattle.mixin_link.specs.Summaries.{found_summary, units_provided, units_shown, AreLawful}
+use Rattle.mixin_link.specs.Summaries.{found_summary, units_shown, idents_of, AreLawful}
 use Rattle.mixin_link.specs.Opening.{open_in, exposed_by}
 use Rattle.mixin_link.specs.Equations.{equations_of}
 use Rattle.mixin_link.proofs.HoleLemmas.{found-fill}
@@ -116,21 +117,26 @@ shown-filled ss f u s = record {
   holes = s.holes ∙ sym (holes-filled u f);
 }
 
-provided-units : (ps : List Provision) (p : Provision) (u : OfUnit) → Among p ps → Among u (units_of p.ident)
-    → Among u (units_provided ps)
-provided-units [] p u a b = absurd a
-provided-units (x ∷ ps) p u (inl e) b = among-left u (units_of x.ident) (units_provided ps)
-    (subst (λ (y : Provision). Among u (units_of y.ident)) (sym e) b)
-provided-units (x ∷ ps) p u (inr a) b = among-right u (units_of x.ident) (units_provided ps)
-    (provided-units ps p u a b)
+pub among-flat : {A B : Type 0} (f : A → List B) (b : B) (xs : List A) (a : A) → Among a xs → Among b (f a)
+    → Among b (flat_map f xs)
+among-flat f b [] a m k = absurd m
+among-flat {A} f b (x ∷ xs) a (inl e) k = among-left b (f x) (flat_map f xs)
+    (subst (λ (y : A). Among b (f y)) (sym e) k)
+among-flat f b (x ∷ xs) a (inr m) k = among-right b (f x) (flat_map f xs) (among-flat f b xs a m k)
 
-shown-units : (ss : List Summary) (s : Summary) (u : OfUnit) → Among s ss → Among u (units_provided s.provisions)
-    → Among u (units_shown ss)
-shown-units [] s u a b = absurd a
-shown-units (x ∷ ss) s u (inl e) b = among-left u (units_provided x.provisions) (units_shown ss)
-    (subst (λ (y : Summary). Among u (units_provided y.provisions)) (sym e) b)
-shown-units (x ∷ ss) s u (inr a) b = among-right u (units_provided x.provisions) (units_shown ss)
-    (shown-units ss s u a b)
+pub flat-among : {A B : Type 0} (f : A → List B) (b : B) (xs : List A) → Among b (flat_map f xs)
+    → (a : A) × Among a xs × Among b (f a)
+flat-among f b [] m = absurd m
+flat-among f b (x ∷ xs) m = elim (among-either b (f x) (flat_map f xs) m) [
+  | inl h ↦ (x, inl refl, h)
+  | inr h ↦ let r = flat-among f b xs h in (r.0, inr r.1, r.2)
+]
+
+-- the units of what a summary provides are shown
+pub shown-unit : (ss : List Summary) (s : Summary) (p : Provision) (u : OfUnit) → Among s ss → Among p s.provisions
+    → Among u (units_of p.ident) → Among u (units_shown ss)
+shown-unit ss s p u a b c = among-flat units_of u (flat_map idents_of ss) p.ident
+    (among-flat idents_of p.ident ss s a (inr (among-map (λ (q : Provision). q.ident) p s.provisions b))) c
 
 -- the units of what entries bring are shown
 pub entries-shown : (ss : List Summary) (ms : List Mixin) (i : OpenInclude) → Among i (map (open_in ss) ms)
@@ -146,8 +152,8 @@ entries-shown ss ms i a p b =
         let x = provided-from m.provides s.provisions p c in
         record {
           source = u;
-          there = shown-units ss s u (found-among m.dep ss s e) (provided-units s.provisions x.source u x.there
-              (subst (λ (j : Ident). Among u (units_of j)) (sym x.same) d));
+          there = shown-unit ss s x.source u (found-among m.dep ss s e) x.there
+              (subst (λ (j : Ident). Among u (units_of j)) (sym x.same) d);
           component = refl;
           holes = refl;
         }
