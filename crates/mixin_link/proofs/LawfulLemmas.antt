@@ -15,7 +15,7 @@ use Rattle.bp_base.specs.Holes.{EachHole, closed, fills_closed}
 use Rattle.bp_base.specs.Lists.{Among}
 use Rattle.bp_base.specs.Texts.{Text}
 use Rattle.bp_base.proofs.TextLemmas.{same_texts, texts_same, other_texts}
-use Rattle.bp_base.proofs.SetLemmas.{among-left, among-right, among-either, among-map, among-image}
+use Rattle.bp_base.proofs.SetLemmas.{among-left, among-right, among-either}
 use Rattle.bp_base.proofs.IdentLemmas.{EachFill, ident-induction}
 use Rattle.bp_base.proofs.HoleLemmas.{EachHole-fills, fills-EachHole, closed-Module, unit_closed-out}
 use Rattle.unit_identity.specs.Fill.{filled, filled_unit, composed, found}
@@ -25,10 +25,9 @@ use Rattle.hole_unify.specs.declared.equation.Equation.{Equation}
 use Rattle.hole_unify.specs.Causes.{IsLawful, units_of, units_in}
 use Rattle.hole_unify.proofs.UnifyingLemmas.{fills-filled}
 use Rattle.mixin_link.specs.declared.summary.Summary.{Summary}
-use Rattle.mixin_link.specs.Summaries.{AreLawful, own_ident, idents_of, units_shown, closed_at, closing, all_held}
+use Rattle.mixin_link.specs.Summaries.{AreLawful, own_ident, idents_of, closed_at, closing, all_held}
 use Rattle.mixin_link.specs.Summaries.{summaries_held, itself, summary_equations}
 use Rattle.mixin_link.proofs.HoleLemmas.{found-fill}
-use Rattle.mixin_link.proofs.UnitLemmas.{among-flat, flat-among}
 
 -- ---- holes that are filled
 

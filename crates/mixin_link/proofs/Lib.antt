@@ -5,3 +5,4 @@ pub mod NameLemmas
 pub mod UnitLemmas
 pub mod LinkLemmas
 pub mod LawfulLemmas
+pub mod NextLemmas

@@ -1,4 +1,4 @@
-use Rattle.std.proofs.Common.{◌≡◌, ◌++◌, drop, map}
+use Rattle.std.proofs.Common.{◌≡◌, drop}
 use Rattle.mixin_link.specs.Summaries.{all_held}
 use Rattle.mixin_link.proofs.lawful.all_held.Given as goal
 

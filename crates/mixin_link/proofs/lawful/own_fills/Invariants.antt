@@ -1,4 +1,4 @@
-use Rattle.std.proofs.Common.{◌≡◌, ◌++◌, drop, map}
+use Rattle.std.proofs.Common.{◌≡◌, ◌++◌, drop}
 use Rattle.mixin_link.specs.Summaries.{own_fills}
 use Rattle.mixin_link.proofs.lawful.own_fills.Given as goal
 

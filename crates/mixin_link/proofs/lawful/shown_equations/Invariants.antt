@@ -1,4 +1,4 @@
-use Rattle.std.proofs.Common.{◌≡◌, ◌++◌, drop, map}
+use Rattle.std.proofs.Common.{◌≡◌, ◌++◌, drop}
 use Rattle.std.specs.List.{flat_map}
 use Rattle.mixin_link.specs.Summaries.{summary_equations}
 use Rattle.mixin_link.proofs.lawful.shown_equations.Given as goal

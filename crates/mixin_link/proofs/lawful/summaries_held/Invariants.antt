@@ -1,4 +1,4 @@
-use Rattle.std.proofs.Common.{◌≡◌, ◌++◌, drop, map}
+use Rattle.std.proofs.Common.{◌≡◌, drop}
 use Rattle.mixin_link.specs.Summaries.{summaries_held}
 use Rattle.mixin_link.proofs.lawful.summaries_held.Given as goal
 
