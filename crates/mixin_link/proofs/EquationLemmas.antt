@@ -26,7 +26,7 @@ use Rattle.mixin_link.specs.Laws.{LinkingsAreUnifiers}
 
 -- ---- what stands in a filtered list
 
-among-filter : {A : Type 0} (f : A → Bool) (a : A) (xs : List A) → Among a xs → f a ≡ true → Among a (filter f xs)
+pub among-filter : {A : Type 0} (f : A → Bool) (a : A) (xs : List A) → Among a xs → f a ≡ true → Among a (filter f xs)
 among-filter f a [] h e = absurd h
 among-filter {A} f a (x ∷ xs) h e = by (f x) refl h (λ k. among-filter f a xs k e)
   where

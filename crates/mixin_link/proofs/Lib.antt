@@ -4,3 +4,5 @@ pub mod PrincipalLemmas
 pub mod NameLemmas
 pub mod UnitLemmas
 pub mod LinkLemmas
+pub mod LawfulLemmas
+pub mod NextLemmas

@@ -24,7 +24,7 @@ use Rattle.mixin_link.specs.Answers.{required_names, own_modules, first_taken, l
 use Rattle.mixin_link.specs.Answers.{IsLinked, Fits, IsLinkingOf, IsUnlinked, IsRefusal}
 use Rattle.mixin_link.proofs.PrincipalLemmas.{answers_are_principal}
 use Rattle.mixin_link.proofs.NameLemmas.{entries-open}
-use Rattle.mixin_link.proofs.UnitLemmas.{equations-lawful}
+use Rattle.mixin_link.proofs.UnitLemmas.{equations-lawful, answer-units}
 
 -- the answer to the equations, written down
 pub linked-by : (required : List Text) (is : List OpenInclude) (es : List Equation) (f : List Fill) (l : Linking)
@@ -35,6 +35,8 @@ linked-by required is es f l o e a occ w = record {
   principal = answers_are_principal required is f o (subst (λ (x : List Equation). IsAnswer x f) e a)
       (subst (λ (x : List Equation). AreOfEquations x f) e occ);
   written = w;
+  parts = λ n r u b. answer-units (equations_of required is) f (subst (λ (x : List Equation). AreOfEquations x f) e occ)
+      n u b;
 }
 
 -- the condition of `linked` is met

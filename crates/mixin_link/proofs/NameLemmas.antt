@@ -3,16 +3,20 @@ use Rattle.std.proofs.Common.{◌≡◌, ◌⊎◌, inl, inr, true, false, Bool,
 use Rattle.std.specs.Prelude.{Option, Some, None, cond}
 use Rattle.std.specs.List.{flat_map}
 use Rattle.std.specs.BTreeSet.{insert_key}
-use Rattle.std.specs.Ordering.{nat_cmp, match_ordering}
+use Rattle.std.specs.Ordering.{nat_cmp, match_ordering, ordering_reverse}
 use Rattle.std.specs.Cmp.Lexicographic.{slice_cmp}
 use Rattle.std.specs.declared.cmp.Ordering.{Ordering}
 use Rattle.std.specs.declared.cmp.Ordering.TheVariants.{Less, Equal, Greater}
 use Rattle.std.specs.Str.{bytes_eq}
+use Rattle.std.proofs.lemmas.Cmp.{nat_list_cmp_total}
+use Rattle.std.specs.List.{filter}
+use Rattle.bp_base.proofs.TextLemmas.{Before-transitive, Rise-after}
+use Rattle.mixin_link.specs.Laws.{NamesAreOrdered}
 use Rattle.bp_base.specs.declared.linking.Rename.{Rename}
 use Rattle.bp_base.specs.declared.linking.Provision.{Provision}
 use Rattle.bp_base.specs.Holes.{EachHole, has_hole}
 use Rattle.bp_base.specs.Lists.{Among}
-use Rattle.bp_base.specs.Texts.{Text}
+use Rattle.bp_base.specs.Texts.{Text, Before, Rise, RiseAfter}
 use Rattle.bp_base.proofs.TextLemmas.{tied_texts}
 use Rattle.bp_base.proofs.SetLemmas.{among-left, among-right, among-either, among-map, among-image}
 use Rattle.cabal_component.specs.declared.component.Mixin.{Mixin}
@@ -59,6 +63,85 @@ ordered-new a done [] h = absurd h
 ordered-new a done (n ∷ ns) (inl e) = subst (λ (t : Text). Among t (in_order done (n ∷ ns))) e
     (ordered-old n (insert_key (slice_cmp nat_cmp) done n) ns (insert-new done n))
 ordered-new a done (n ∷ ns) (inr h) = ordered-new a (insert_key (slice_cmp nat_cmp) done n) ns h
+
+-- nothing else is put in
+insert-from : (a : Text) (ks : List Text) (k : Text) → Among a (insert_key (slice_cmp nat_cmp) ks k)
+    → (k ≡ a) ⊎ Among a ks
+insert-from a [] k (inl e) = inl e
+insert-from a [] k (inr h) = absurd h
+insert-from a (x ∷ xs) k h = by (slice_cmp nat_cmp k x) h (insert-from a xs k)
+  where
+    by : (o : Ordering) → Among a (match_ordering o (k ∷ x ∷ xs) (x ∷ xs) (x ∷ insert_key (slice_cmp nat_cmp) xs k))
+        → (Among a (insert_key (slice_cmp nat_cmp) xs k) → (k ≡ a) ⊎ Among a xs) → (k ≡ a) ⊎ Among a (x ∷ xs)
+    by Less (inl e) r = inl e
+    by Less (inr m) r = inr m
+    by Equal m r = inr m
+    by Greater (inl e) r = inr (inl e)
+    by Greater (inr m) r = elim (r m) [ inl e ↦ inl e | inr h ↦ inr (inr h) ]
+
+ordered-from : (a : Text) (done ns : List Text) → Among a (in_order done ns) → Among a done ⊎ Among a ns
+ordered-from a done [] h = inl h
+ordered-from a done (n ∷ ns) h = elim (ordered-from a (insert_key (slice_cmp nat_cmp) done n) ns h) [
+  | inl m ↦ elim (insert-from a done n m) [ inl e ↦ inr (inl e) | inr k ↦ inl k ]
+  | inr m ↦ inr (inr m)
+]
+
+insert-after : (a k : Text) (ks : List Text) → Before a k → RiseAfter a ks
+    → RiseAfter a (insert_key (slice_cmp nat_cmp) ks k)
+insert-after a k [] b r = (b, tt)
+insert-after a k (x ∷ xs) b r = by (slice_cmp nat_cmp k x) refl (λ c. insert-after x k xs c r.1)
+  where
+    by : (o : Ordering) → slice_cmp nat_cmp k x ≡ o
+        → (Before x k → RiseAfter x (insert_key (slice_cmp nat_cmp) xs k))
+        → RiseAfter a (match_ordering o (k ∷ x ∷ xs) (x ∷ xs) (x ∷ insert_key (slice_cmp nat_cmp) xs k))
+    by Less e more = (b, (e, r.1))
+    by Equal e more = r
+    by Greater e more = (r.0, more (nat_list_cmp_total.antisymm x k ∙ ap ordering_reverse e))
+
+insert-rise : (k : Text) (ks : List Text) → Rise ks → Rise (insert_key (slice_cmp nat_cmp) ks k)
+insert-rise k [] r = tt
+insert-rise k (x ∷ xs) r = by (slice_cmp nat_cmp k x) refl
+  where
+    by : (o : Ordering) → slice_cmp nat_cmp k x ≡ o
+        → Rise (match_ordering o (k ∷ x ∷ xs) (x ∷ xs) (x ∷ insert_key (slice_cmp nat_cmp) xs k))
+    by Less e = (e, r)
+    by Equal e = r
+    by Greater e = insert-after x k xs (nat_list_cmp_total.antisymm x k ∙ ap ordering_reverse e) r
+
+ordered-rise : (done ns : List Text) → Rise done → Rise (in_order done ns)
+ordered-rise done [] r = r
+ordered-rise done (n ∷ ns) r = ordered-rise (insert_key (slice_cmp nat_cmp) done n) ns (insert-rise n done r)
+
+pub names_are_ordered : NamesAreOrdered
+names_are_ordered ns = (
+  ordered-rise [] ns tt,
+  (λ n. (
+    (λ h. elim (ordered-from n [] ns h) [ inl none ↦ absurd none | inr m ↦ m ]),
+    (λ h. ordered-new n [] ns h),
+  )),
+)
+
+later : (a x : Text) (xs : List Text) → Before a x → RiseAfter x xs → RiseAfter a xs
+later a x [] b r = tt
+later a x (y ∷ ys) b r = (Before-transitive a x y b r.0, r.1)
+
+filter-after : (f : Text → Bool) (a : Text) (xs : List Text) → RiseAfter a xs → RiseAfter a (filter f xs)
+filter-after f a [] r = tt
+filter-after f a (x ∷ xs) r = by (f x) (filter-after f x xs r.1) (filter-after f a xs (later a x xs r.0 r.1))
+  where
+    by : (b : Bool) → RiseAfter x (filter f xs) → RiseAfter a (filter f xs)
+        → RiseAfter a (cond b (x ∷ filter f xs) (filter f xs))
+    by true k l = (r.0, k)
+    by false k l = l
+
+-- what is kept of names in order is in order
+pub filter-rise : (f : Text → Bool) (xs : List Text) → Rise xs → Rise (filter f xs)
+filter-rise f [] r = tt
+filter-rise f (x ∷ xs) r = by (f x) (filter-after f x xs r) (filter-rise f xs (Rise-after x xs r))
+  where
+    by : (b : Bool) → RiseAfter x (filter f xs) → Rise (filter f xs) → Rise (cond b (x ∷ filter f xs) (filter f xs))
+    by true k l = k
+    by false k l = l
 
 linked-name : (is : List OpenInclude) (i : OpenInclude) (r : Rename) → Among i is → Among r i.needs
     → Among r.to (linkage_names is)

@@ -1,20 +1,29 @@
 -- Units in identities that are filled, and the condition on the equations.
 use Rattle.std.proofs.Common.{◌≡◌, inl, inr, List, [], ◌∷◌, ◌++◌, map, refl, sym, ap, ◌∙◌, subst}
 use Rattle.std.specs.Prelude.{Option, Some, None, unwrap_or}
+use Rattle.std.specs.List.{flat_map}
 use Rattle.bp_base.specs.declared.ident.Ident.{Ident}
-use Rattle.bp_base.specs.declared.ident.Ident.TheVariants.{Hole, Module}
-use Rattle.bp_base.specs.declared.ident.Unit.{Unit as OfUnit, out-Unit}
+use Rattle.bp_base.specs.declared.ident.Ident.TheVariants.{Hole, Module, Module'}
+use Rattle.bp_base.specs.declared.ident.Unit.{Unit as OfUnit, Unit', out-Unit}
+use Rattle.bp_base.specs.declared.ident.Ident.TheBlock.{hidden-the_row-Unit-0, end_of-Unit, more_of-Unit, Row_of-Fill}
+use Rattle.bp_base.specs.declared.ident.Ident.TheBlock.{end_of-Fill, more_of-Fill}
 use Rattle.bp_base.specs.declared.ident.Fill.{Fill}
 use Rattle.bp_base.specs.declared.linking.Rename.{Rename}
 use Rattle.bp_base.specs.declared.linking.Provision.{Provision}
 use Rattle.bp_base.specs.Lists.{Among}
 use Rattle.bp_base.specs.Texts.{Text, Rise}
-use Rattle.bp_base.proofs.SetLemmas.{among-left, among-right, among-either, among-image}
+use Rattle.bp_base.proofs.SetLemmas.{among-left, among-right, among-either, among-image, among-map}
 use Rattle.bp_base.proofs.IdentLemmas.{EachFill, ident-induction}
-use Rattle.unit_identity.specs.Fill.{filled, filled_unit, composed, found}
+use Rattle.unit_identity.specs.Fill.{filled, filled_unit, composed, found, at_hole}
 use Rattle.unit_identity.proofs.FillLemmas.{filled-Module}
 use Rattle.hole_unify.specs.declared.equation.Equation.{Equation}
-use Rattle.hole_unify.specs.Causes.{IsLawful, units_of, units_in, holes_of}
+use Rattle.hole_unify.specs.Causes.{IsLawful, units_of, units_below, units_of_row, units_in, holes_of}
+use Rattle.hole_unify.specs.Occurrence.{Occurs, AreOfEquations}
+use Rattle.hole_unify.specs.Table.{terms_in}
+use Rattle.hole_unify.proofs.UnitLemmas.{listed-unit}
+use Rattle.ident_table.specs.Parts.{terms_of, terms_below, terms_of_row}
+use Rattle.mixin_link.specs.Answers.{IsLike}
+use denote.Hole.Carrier.{hidden}
 use Rattle.hole_unify.specs.Lawful.{units_in_fills}
 use Rattle.hole_unify.proofs.UnifyingLemmas.{component-filled, fills-filled}
 use Rattle.hole_unify.proofs.LawfulnessLemmas.{units_of-Module, units_below-out}
@@ -23,7 +32,7 @@ use Rattle.mixin_names.specs.Names.{provided}
 use Rattle.mixin_link.specs.declared.open.OpenInclude.{OpenInclude}
 use Rattle.mixin_link.specs.declared.summary.Summary.{Summary}
 use Rattle.mixin_link.specs.Linkings.{fills_under}
-use Rattle.mixin_link.specs.Summaries.{found_summary, units_provided, units_shown, AreLawful}
+use Rattle.mixin_link.specs.Summaries.{found_summary, units_shown, idents_of, AreLawful}
 use Rattle.mixin_link.specs.Opening.{open_in, exposed_by}
 use Rattle.mixin_link.specs.Equations.{equations_of}
 use Rattle.mixin_link.proofs.HoleLemmas.{found-fill}
@@ -34,7 +43,7 @@ use Rattle.mixin_link.proofs.NameLemmas.{provided-from, found-among}
 abbrev pub EachUnit : (OfUnit → Type 0) → Ident → Type 0
 EachUnit P i = (u : OfUnit) → Among u (units_of i) → P u
 
-module-units : (u : OfUnit) (m : Text) → units_of (Module u m) ≡ u ∷ units_in_fills (out-Unit u).fills
+pub module-units : (u : OfUnit) (m : Text) → units_of (Module u m) ≡ u ∷ units_in_fills (out-Unit u).fills
 module-units u m = units_of-Module u m ∙ ap (λ (l : List OfUnit). u ∷ l) (units_below-out u)
 
 fills-each : (P : OfUnit → Type 0) (fs : List Fill) → ((u : OfUnit) → Among u (units_in_fills fs) → P u)
@@ -116,21 +125,26 @@ shown-filled ss f u s = record {
   holes = s.holes ∙ sym (holes-filled u f);
 }
 
-provided-units : (ps : List Provision) (p : Provision) (u : OfUnit) → Among p ps → Among u (units_of p.ident)
-    → Among u (units_provided ps)
-provided-units [] p u a b = absurd a
-provided-units (x ∷ ps) p u (inl e) b = among-left u (units_of x.ident) (units_provided ps)
-    (subst (λ (y : Provision). Among u (units_of y.ident)) (sym e) b)
-provided-units (x ∷ ps) p u (inr a) b = among-right u (units_of x.ident) (units_provided ps)
-    (provided-units ps p u a b)
+pub among-flat : {A B : Type 0} (f : A → List B) (b : B) (xs : List A) (a : A) → Among a xs → Among b (f a)
+    → Among b (flat_map f xs)
+among-flat f b [] a m k = absurd m
+among-flat {A} f b (x ∷ xs) a (inl e) k = among-left b (f x) (flat_map f xs)
+    (subst (λ (y : A). Among b (f y)) (sym e) k)
+among-flat f b (x ∷ xs) a (inr m) k = among-right b (f x) (flat_map f xs) (among-flat f b xs a m k)
 
-shown-units : (ss : List Summary) (s : Summary) (u : OfUnit) → Among s ss → Among u (units_provided s.provisions)
-    → Among u (units_shown ss)
-shown-units [] s u a b = absurd a
-shown-units (x ∷ ss) s u (inl e) b = among-left u (units_provided x.provisions) (units_shown ss)
-    (subst (λ (y : Summary). Among u (units_provided y.provisions)) (sym e) b)
-shown-units (x ∷ ss) s u (inr a) b = among-right u (units_provided x.provisions) (units_shown ss)
-    (shown-units ss s u a b)
+pub flat-among : {A B : Type 0} (f : A → List B) (b : B) (xs : List A) → Among b (flat_map f xs)
+    → (a : A) × Among a xs × Among b (f a)
+flat-among f b [] m = absurd m
+flat-among f b (x ∷ xs) m = elim (among-either b (f x) (flat_map f xs) m) [
+  | inl h ↦ (x, inl refl, h)
+  | inr h ↦ let r = flat-among f b xs h in (r.0, inr r.1, r.2)
+]
+
+-- the units of what a summary provides are shown
+pub shown-unit : (ss : List Summary) (s : Summary) (p : Provision) (u : OfUnit) → Among s ss → Among p s.provisions
+    → Among u (units_of p.ident) → Among u (units_shown ss)
+shown-unit ss s p u a b c = among-flat units_of u (flat_map idents_of ss) p.ident
+    (among-flat idents_of p.ident ss s a (inr (among-map (λ (q : Provision). q.ident) p s.provisions b))) c
 
 -- the units of what entries bring are shown
 pub entries-shown : (ss : List Summary) (ms : List Mixin) (i : OpenInclude) → Among i (map (open_in ss) ms)
@@ -146,8 +160,8 @@ entries-shown ss ms i a p b =
         let x = provided-from m.provides s.provisions p c in
         record {
           source = u;
-          there = shown-units ss s u (found-among m.dep ss s e) (provided-units s.provisions x.source u x.there
-              (subst (λ (j : Ident). Among u (units_of j)) (sym x.same) d));
+          there = shown-unit ss s x.source u (found-among m.dep ss s e) x.there
+              (subst (λ (j : Ident). Among u (units_of j)) (sym x.same) d);
           component = refl;
           holes = refl;
         }
@@ -182,6 +196,12 @@ equations-shown ss ms required e a =
           (entries-shown ss ms w.source w.listed w.provision w.provided),
     )
 
+-- the units of the equations are shown
+pub equation-units : (ss : List Summary) (ms : List Mixin) (required : List Text) (u : OfUnit)
+    → Among u (units_in (equations_of required (map (open_in ss) ms))) → IsShown ss u
+equation-units ss ms required u a = unit-side (IsShown ss) (equations_of required (map (open_in ss) ms))
+    (equations-shown ss ms required) u a
+
 -- the equations of lawful summaries meet the condition of unification
 pub equations-lawful : (ss : List Summary) (ms : List Mixin) (required : List Text) → AreLawful ss
     → IsLawful (equations_of required (map (open_in ss) ms))
@@ -192,4 +212,44 @@ equations-lawful ss ms required l = record {
 }
   where
     shown : (u : OfUnit) → Among u (units_in (equations_of required (map (open_in ss) ms))) → IsShown ss u
-    shown u a = unit-side (IsShown ss) (equations_of required (map (open_in ss) ms)) (equations-shown ss ms required) u a
+    shown u a = equation-units ss ms required u a
+
+-- ---- the units of an answer
+
+-- a unit that occurs stands among the terms, with some module
+mutual
+  unit-term : (i : Ident) (u : OfUnit) → Among u (units_of i) → (m : Text) × Among (Module u m) (terms_of i)
+  unit-term (Hole n) u a = absurd a
+  unit-term (Module' s (more_of-Unit v end_of-Unit) n) u (inl e) = (n, inl (ap (λ (w : OfUnit). Module w n) e))
+  unit-term (Module' s (more_of-Unit v end_of-Unit) n) u (inr a) = let r = term-below v u a in (r.0, inr r.1)
+
+  term-below : (v u : OfUnit) → Among u (units_below v) → (m : Text) × Among (Module u m) (terms_below v)
+  term-below (Unit' c s r) u a = term-row r u a
+
+  term-row : {k : _} (r : Row_of-Fill k) (u : OfUnit) → Among u (units_of_row r)
+      → (m : Text) × Among (Module u m) (terms_of_row r)
+  term-row end_of-Fill u a = absurd a
+  term-row (more_of-Fill n i r) u a = elim (among-either u (units_of i) (units_of_row r) a) [
+    | inl h ↦ let x = unit-term i u h in (x.0, among-left (Module u x.0) (terms_of i) (terms_of_row r) x.1)
+    | inr h ↦ let x = term-row r u h in (x.0, among-right (Module u x.0) (terms_of i) (terms_of_row r) x.1)
+  ]
+
+occurs-is : (es : List Equation) (u : OfUnit) (m : Text) → Occurs es (Module u m)
+    → (v : OfUnit) × Among (Module v m) (terms_in es) × ((out-Unit v).component ≡ (out-Unit u).component)
+    × (holes_of v ≡ holes_of u)
+unfolding hidden-the_row-Unit-0 hidden
+occurs-is es u m o = o
+
+-- the units in what an answer puts at a hole are those of the equations, perhaps filled otherwise
+pub answer-units : (es : List Equation) (f : List Fill) → AreOfEquations es f → (n : Text) (u : OfUnit)
+    → Among u (units_of (at_hole n f)) → IsLike es u
+answer-units es f occ n u a = by (found n f) refl a
+  where
+    by : (o : Option Ident) → found n f ≡ o → Among u (units_of (unwrap_or o (Hole n))) → IsLike es u
+    by None e b = absurd b
+    by (Some i) e b =
+        let x = found-fill n f i e in
+        let t = unit-term i u b in
+        let o = occurs-is es u t.0 (occ.parts x.0 x.1 (Module u t.0)
+        (subst (λ (j : Ident). Among (Module u t.0) (terms_of j)) (sym x.2) t.1)) in
+        record { source = o.0; there = listed-unit es o.0 t.0 o.1; component = o.2; holes = o.3 }

@@ -12,14 +12,15 @@ use Rattle.bp_base.specs.declared.ident.Fill.{Fill}
 use Rattle.bp_base.specs.declared.linking.Provision.{Provision}
 use Rattle.bp_base.specs.declared.linking.Include.{Include}
 use Rattle.bp_base.specs.declared.linking.Linking.{Linking}
-use Rattle.bp_base.specs.Lists.{is_among}
+use Rattle.bp_base.specs.declared.ident.Unit.{Unit as OfUnit, out-Unit}
+use Rattle.bp_base.specs.Lists.{Among, is_among}
 use Rattle.bp_base.specs.Texts.{Text}
 use Rattle.unit_identity.specs.Fill.{filled}
 use Rattle.hole_unify.specs.declared.equation.Equation.{Equation}
 use Rattle.hole_unify.specs.declared.equation.Head.{Head}
 use Rattle.hole_unify.specs.declared.equation.IdentUnifyError.{IdentUnifyError}
 use Rattle.hole_unify.specs.declared.equation.IdentUnifyError.TheVariants as cause
-use Rattle.hole_unify.specs.Causes.{IsCause}
+use Rattle.hole_unify.specs.Causes.{IsCause, units_of, units_in, holes_of}
 use Rattle.cabal_component.specs.declared.component.Component.{Component}
 use Rattle.cabal_component.specs.Includes.{includes_of}
 use Rattle.mixin_link.specs.declared.error.LinkError.{LinkError}
@@ -99,11 +100,20 @@ required_by c ss = required_names c.signatures (open_includes c ss)
 abbrev pub taken_by : Component → List Summary → Option Text
 taken_by c ss = first_taken (own_modules c) (required_by c ss)
 
--- the principal linking, written down
+-- a unit with the component and the holes of one that occurs in the equations
+pub record IsLike (es : List Equation) (u : OfUnit) : Type 0 where
+  pub source : OfUnit
+  pub there : Among source (units_in es)
+  pub component : (out-Unit source).component ≡ (out-Unit u).component
+  pub holes : holes_of source ≡ holes_of u
+
+-- the principal linking, written down; the units in what it assigns are those of the equations, perhaps filled otherwise
 pub record IsLinked (required : List Text) (is : List OpenInclude) (l : Linking) : Type 0 where
   pub assigns : Text → Ident
   pub principal : IsPrincipal required is assigns
   pub written : l ≡ linking_under assigns required is
+  pub parts : (n : Text) → Among n required → (u : OfUnit) → Among u (units_of (assigns n))
+      → IsLike (equations_of required is) u
 
 -- no entry is refused, and no name taken
 pub record Fits (c : Component) (ss : List Summary) : Type 0 where

@@ -1,9 +1,18 @@
 -- What linkings have to do with unifiers.
-use Rattle.std.specs.Prelude.{◌≡◌, List}
+use Rattle.std.specs.Prelude.{◌≡◌, ◌⊎◌, ◌↔◌, List, [], ◌∷◌}
 use Rattle.bp_base.specs.declared.ident.Ident.{Ident}
 use Rattle.bp_base.specs.declared.ident.Fill.{Fill}
 use Rattle.bp_base.specs.Lists.{Among}
-use Rattle.bp_base.specs.Texts.{Text}
+use Rattle.bp_base.specs.declared.ident.Ident.TheVariants.{Module}
+use Rattle.bp_base.specs.declared.ident.Unit.{Unit as OfUnit, out-Unit}
+use Rattle.bp_base.specs.declared.linking.Include.{Include}
+use Rattle.bp_base.specs.declared.linking.Linking.{Linking}
+use Rattle.bp_base.specs.declared.linking.Provision.{Provision}
+use Rattle.bp_base.specs.Texts.{Text, Rise}
+use Rattle.cabal_component.specs.declared.component.Component.{Component}
+use Rattle.mixin_link.specs.declared.summary.Summary.{Summary}
+use Rattle.mixin_link.specs.Summaries.{own_unit, units_shown, AreLawful}
+use Rattle.mixin_link.specs.Answers.{in_order, IsLinkingOf}
 use Rattle.unit_identity.specs.Fill.{at_hole}
 use Rattle.hole_unify.specs.declared.equation.IdentUnifyError.{IdentUnifyError}
 use Rattle.hole_unify.specs.declared.equation.IdentUnifyError.TheVariants.{NoMemory}
@@ -35,3 +44,20 @@ PrincipalIsOne = (required : List Text) (is : List OpenInclude) (s t : Text → 
 abbrev pub CausesLeaveNone : Type 0
 CausesLeaveNone = (required : List Text) (is : List OpenInclude) (e : IdentUnifyError) (s : Text → Ident)
     → AreOpen required is → IsCause (equations_of required is) e → IsLinking required is s → e ≡ NoMemory
+
+-- names are put in byte order, each once, and no others
+abbrev pub NamesAreOrdered : Type 0
+NamesAreOrdered = (ns : List Text) → Rise (in_order [] ns) × ((n : Text) → Among n (in_order [] ns) ↔ Among n ns)
+
+-- what a component provides: modules of its own unit, and what its includes provide, perhaps under other names
+abbrev pub IsProvided : Text → Linking → Provision → Type 0
+IsProvided c l p = ((m : Text) × (p.ident ≡ Module (own_unit c l.holes) m))
+    ⊎ ((i : Include) × Among i l.includes × (q : Provision) × Among q i.provides × (q.ident ≡ p.ident))
+
+-- What a linked component provides meets the condition for the next one, where no summary has a unit of its name.
+abbrev pub LinkingsAreLawful : Type 0
+LinkingsAreLawful = (c : Component) (ss : List Summary) (l : Linking) (ps : List Provision) → AreLawful ss
+    → IsLinkingOf c ss l
+    → ((u : OfUnit) → Among u (units_shown ss) → (out-Unit u).component ≡ c.name → ⊥)
+    → ((p : Provision) → Among p ps → IsProvided c.name l p)
+    → AreLawful (record { component = c.name; holes = l.holes; provisions = ps } ∷ ss)

@@ -1,5 +1,5 @@
 //! Laws of the definitions.
-ghost use Rattle.mixin_link.specs.Laws.{LinkingsAreUnifiers, AnswersArePrincipal, PrincipalIsOne, CausesLeaveNone};
+ghost use Rattle.mixin_link.specs.Laws.{LinkingsAreUnifiers, AnswersArePrincipal, PrincipalIsOne, CausesLeaveNone, NamesAreOrdered, LinkingsAreLawful};
 
 /// The linkings of a component are the unifiers of its equations.
 pub fn linkings_are_unifiers()
@@ -19,4 +19,14 @@ pub fn principal_is_one()
 /// Where the equations have no unifier, there is no linking.
 pub fn causes_leave_none()
     ensures { CausesLeaveNone }
+{}
+
+/// The required names are in byte order, each once.
+pub fn names_are_ordered()
+    ensures { NamesAreOrdered }
+{}
+
+/// What a linked component provides meets the condition of `link_names` for the next component.
+pub fn linkings_are_lawful()
+    ensures { LinkingsAreLawful }
 {}

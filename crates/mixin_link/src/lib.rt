@@ -5,6 +5,7 @@
 mod entry;
 mod equations;
 mod error;
+mod lawful;
 mod laws;
 mod link;
 mod open;
@@ -13,6 +14,7 @@ mod summary;
 mod written;
 
 pub use error::LinkError;
+pub use lawful::are_lawful;
 pub use laws::{answers_are_principal, causes_leave_none, linkings_are_unifiers, principal_is_one};
 pub use link::link_names;
 pub use open::{OpenInclude, OpenIncludes};

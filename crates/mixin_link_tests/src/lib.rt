@@ -1,0 +1,7 @@
+//! Worked linkings.
+#![tactic(auto)]
+
+#[cfg(test)]
+mod tables;
+#[cfg(test)]
+mod tests;
