@@ -1,0 +1,4 @@
+pub mod Tables
+pub mod ImportLists
+pub mod Filters
+pub mod Scopes
