@@ -4,6 +4,7 @@
 mod error;
 mod filter;
 mod import;
+mod laws;
 mod listing;
 mod scope;
 mod showing;
@@ -12,5 +13,6 @@ mod visible;
 mod written;
 
 pub use error::ScopeError;
+pub use laws::exports_are_exact;
 pub use scope::scope_of;
 pub use visible::{Visible, Visibles};
