@@ -1,0 +1,8 @@
+use Rattle.std.proofs.Common.{◌≡◌, drop}
+use Rattle.std.specs.List.{flat_map, list_any}
+use Rattle.import_resolve.specs.Scopes.{names_prelude, top_import}
+use Rattle.import_resolve.proofs.scope.tops_name_prelude.Given as goal
+
+abbrev pub invariant-loop-slot : goal.invariant-loop-slot
+invariant-loop-slot l =
+    list_any names_prelude (flat_map top_import (drop l.slot-index l.slots)) ≡ list_any names_prelude (flat_map top_import l.slots)
