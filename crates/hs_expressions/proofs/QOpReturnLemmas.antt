@@ -1,9 +1,8 @@
 -- Where no operator stands.
-use Rattle.std.proofs.Common.{◌≡◌, ℕ, Bool, true, false, List, [], ◌∷◌, ◌++◌, length, refl, sym, ap, ◌∙◌, subst}
+use Rattle.std.proofs.Common.{◌≡◌, ℕ, Bool, true, false, List, [], ◌∷◌, ◌++◌, length, refl, sym, ap, ◌∙◌}
 use Rattle.std.proofs.Common.{true≢false, arith, inl, inr, ◌⊎◌}
-use Rattle.std.specs.Prelude.{Option, None, Some}
-use Rattle.hs_forms.specs.Reading.{SameStart, begins, Reads, Refuses}
-use Rattle.hs_forms.specs.Limits.{Within}
+use Rattle.std.specs.Prelude.{Option}
+use Rattle.hs_forms.specs.Reading.{SameStart, begins}
 use Rattle.hs_forms.specs.Answers.{Rejects}
 use Rattle.hs_forms.proofs.FormLemmas.{begins_append, begins_same}
 use Rattle.hs_forms.proofs.LimitLemmas.{within_zero}
