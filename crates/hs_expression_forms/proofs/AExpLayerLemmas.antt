@@ -1,11 +1,9 @@
 -- The `aexp` from its parts.
-use Rattle.std.proofs.Common.{◌≡◌, ℕ, ◌+◌, Bool, true, false, List, [], ◌∷◌, ◌++◌, length, refl, sym, ap, ◌∙◌, subst}
-use Rattle.std.proofs.Common.{append_assoc, arith}
-use Rattle.std.specs.Prelude.{flat_map, map, max, ◌&&◌, nat_lt, nat_le, not, Option, Some, None}
+use Rattle.std.proofs.Common.{◌≡◌, ◌+◌, true, List, [], ◌∷◌, ◌++◌, length, refl, sym, ap, ◌∙◌, subst}
+use Rattle.std.specs.Prelude.{map, max, ◌&&◌, nat_lt, not, None}
 use Rattle.std.proofs.lemmas.List.Folds.{flat_map-map}
 use Rattle.hs_forms.specs.Reading.{begins}
-use Rattle.hs_forms.specs.Limits.{deepest, all_of}
-use Rattle.hs_tokens.specs.declared.terminal.Terminal.{Terminal}
+use Rattle.hs_forms.specs.Limits.{all_of}
 use Rattle.hs_tokens.specs.declared.terminal.Terminal.TheVariants as t
 use Rattle.hs_trees.specs.Patterns.{Ts, literal_token, gcon_tokens, is_gcon}
 use Rattle.hs_trees.proofs.TypeLayerLemmas.{length_of_map}
@@ -13,11 +11,11 @@ use Rattle.hs_trees.specs.declared.patterns.LiteralTree.{LiteralTree}
 use Rattle.hs_trees.specs.declared.patterns.LiteralTree.TheVariants as l
 use Rattle.hs_trees.specs.declared.patterns.GConTree.{GConTree}
 use Rattle.hs_trees.specs.declared.patterns.GConTree.TheVariants as g
-use Rattle.hs_modules.specs.Extents.{Extent, depth_of}
-use Rattle.hs_modules.specs.ExpressionExtents.{extent_algebra, extent_of_exp, extent_of_aexp, extent_of_infix}
+use Rattle.hs_modules.specs.Extents.{depth_of}
+use Rattle.hs_modules.specs.ExpressionExtents.{extent_algebra, extent_of_exp}
 use Rattle.hs_modules.specs.Tokens.{token_algebra, spelling_exp, spelling_aexp, spelling_infix}
 use Rattle.hs_modules.specs.Words.{qvar_tokens, qop_tokens, is_bare_minus}
-use Rattle.hs_modules.specs.Formed.{Facts, fact_algebra, closed, good_of, facts_of_exp, facts_of_aexp, facts_of_infix}
+use Rattle.hs_modules.specs.Formed.{fact_algebra, good_of, facts_of_exp, facts_of_infix}
 use Rattle.hs_modules.specs.declared.names.QVarTree.{QVarTree}
 use Rattle.hs_modules.specs.declared.names.QVarTree.TheVariants as q
 use Rattle.hs_modules.specs.declared.names.QOpTree.{QOpTree}
@@ -27,7 +25,6 @@ use Rattle.hs_modules.specs.declared.expressions.AExpTree.TheVariants as a
 use Rattle.hs_modules.specs.declared.expressions.ExpTree.{ExpTree}
 use Rattle.hs_modules.specs.declared.expressions.InfixTree.{InfixTree}
 use Rattle.hs_modules.proofs.FoldingLemmas.{AExpTrees, aexp_folded}
-use Rattle.hs_expression_forms.specs.Trees.{Trees}
 use Rattle.hs_expression_forms.specs.Expressions.{is_exp, is_aexp, is_infix, depth_of_aexp, depth_of_exp}
 use Rattle.hs_expression_forms.specs.Expressions.{depth_of_infix, exp_parts, starts_aexp}
 use Rattle.hs_expression_forms.proofs.OperandLayerLemmas.{deepest_of, all_good_of}
@@ -42,7 +39,8 @@ var_is x = ap is_aexp (sym (a.rolls-Var x)) ∙ ap good_of (aexp_folded fact_alg
 
 pub var_deep : (x : QVarTree) → depth_of_aexp (a.Var x) ≡ 0
 unfolding extent_algebra
-var_deep x = ap (λ y. depth_of_aexp y) (sym (a.rolls-Var x)) ∙ ap depth_of (aexp_folded extent_algebra (AExpTree-F.Var x))
+var_deep x = ap (λ y. depth_of_aexp y) (sym (a.rolls-Var x)) ∙ ap depth_of (aexp_folded extent_algebra
+    (AExpTree-F.Var x))
 
 pub con_spelled : (x : GConTree) → spelling_aexp (a.Con x) ≡ gcon_tokens x
 unfolding token_algebra
@@ -54,7 +52,8 @@ con_is x = ap is_aexp (sym (a.rolls-Con x)) ∙ ap good_of (aexp_folded fact_alg
 
 pub con_deep : (x : GConTree) → depth_of_aexp (a.Con x) ≡ 0
 unfolding extent_algebra
-con_deep x = ap (λ y. depth_of_aexp y) (sym (a.rolls-Con x)) ∙ ap depth_of (aexp_folded extent_algebra (AExpTree-F.Con x))
+con_deep x = ap (λ y. depth_of_aexp y) (sym (a.rolls-Con x)) ∙ ap depth_of (aexp_folded extent_algebra
+    (AExpTree-F.Con x))
 
 pub literal_spelled : (x : LiteralTree) → spelling_aexp (a.Literal x) ≡ literal_token x ∷ []
 unfolding token_algebra
@@ -67,7 +66,8 @@ literal_is x = ap is_aexp (sym (a.rolls-Literal x)) ∙ ap good_of (aexp_folded 
 pub literal_deep : (x : LiteralTree) → depth_of_aexp (a.Literal x) ≡ 0
 unfolding extent_algebra
 literal_deep x =
-    ap (λ y. depth_of_aexp y) (sym (a.rolls-Literal x)) ∙ ap depth_of (aexp_folded extent_algebra (AExpTree-F.Literal x))
+    ap (λ y. depth_of_aexp y) (sym (a.rolls-Literal x)) ∙ ap depth_of (aexp_folded extent_algebra
+    (AExpTree-F.Literal x))
 
 abbrev pub Parts : Type 0
 Parts = ExpTree × List ExpTree

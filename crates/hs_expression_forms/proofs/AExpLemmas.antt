@@ -1,29 +1,23 @@
 -- The productions of an `aexp`, told apart by their first tokens.
-use Rattle.std.proofs.Common.{◌≡◌, ℕ, zero, suc, ◌+◌, ◌<◌, ◌≤◌, Bool, true, false, List, [], ◌∷◌, ◌++◌, length, refl}
-use Rattle.std.proofs.Common.{sym, ap, ◌∙◌, subst, true≢false, arith, append_assoc, inl, inr, ◌⊎◌}
-use Rattle.std.specs.Prelude.{max, map, flat_map, not, nat_eq, nat_lt, nat_le, replicate, ◌&&◌, ◌||◌, Option, Some, None}
+use Rattle.std.proofs.Common.{◌≡◌, ℕ, zero, suc, ◌+◌, Bool, true, false, List, [], ◌∷◌, ◌++◌, length, refl}
+use Rattle.std.proofs.Common.{sym, ap, ◌∙◌, subst, true≢false, arith, append_assoc, inl, inr}
+use Rattle.std.specs.Prelude.{map, flat_map, not, nat_eq, nat_lt, replicate, ◌&&◌, ◌||◌, Some, None}
 use Rattle.std.specs.Str.{bytes_eq}
-use Rattle.std.proofs.lemmas.Bool.{and_from}
 use Rattle.std.proofs.lemmas.Bool.Decides.{nat_tests}
 use Rattle.std.proofs.lemmas.List.{append-nil}
 use Rattle.hs_forms.specs.Reading.{begins}
-use Rattle.hs_forms.specs.Limits.{Within, deepest, all_of}
-use Rattle.hs_forms.proofs.FormLemmas.{begins_append}
-use Rattle.hs_forms.proofs.LimitLemmas.{within_zero, and_left, and_right}
+use Rattle.hs_forms.specs.Limits.{all_of}
+use Rattle.hs_forms.proofs.LimitLemmas.{and_left, and_right}
 use Rattle.hs_tokens.specs.Terminals.{minus, is_minus}
-use Rattle.hs_tokens.specs.declared.terminal.Terminal.{Terminal}
 use Rattle.hs_tokens.specs.declared.terminal.Terminal.TheVariants as t
 use Rattle.hs_trees.specs.Patterns.{Ts, literal_token, gcon_tokens, named_con, is_gcon}
 use Rattle.hs_trees.specs.declared.patterns.LiteralTree.{LiteralTree}
 use Rattle.hs_trees.specs.declared.patterns.LiteralTree.TheVariants as l
-use Rattle.hs_trees.specs.declared.patterns.GConTree.{GConTree}
 use Rattle.hs_trees.specs.declared.patterns.GConTree.TheVariants as g
 use Rattle.hs_trees.specs.declared.patterns.QConOpTree.TheVariants as o
-use Rattle.hs_modules.specs.Words.{qop_tokens, qvar_tokens, is_bare_minus, bracketed}
-use Rattle.hs_modules.specs.Tokens.{spelling_aexp, spelling_exp, spelling_infix, spelling_operand, sign_tokens}
-use Rattle.hs_modules.specs.Tokens.{spelling_signed, spelling_link}
-use Rattle.hs_modules.specs.Formed.{facts_of_infix}
-use Rattle.hs_modules.specs.declared.names.QVarTree.{QVarTree}
+use Rattle.hs_modules.specs.Words.{qop_tokens, is_bare_minus, bracketed}
+use Rattle.hs_modules.specs.Tokens.{spelling_aexp, spelling_exp, spelling_infix, sign_tokens}
+use Rattle.hs_modules.specs.Tokens.{spelling_signed}
 use Rattle.hs_modules.specs.declared.names.QVarTree.TheVariants as q
 use Rattle.hs_modules.specs.declared.names.QOpTree.{QOpTree}
 use Rattle.hs_modules.specs.declared.names.QOpTree.TheVariants as qo
@@ -33,12 +27,11 @@ use Rattle.hs_modules.specs.declared.expressions.AExpTree.TheVariants as a
 use Rattle.hs_modules.specs.declared.expressions.ExpTree.{ExpTree}
 use Rattle.hs_modules.specs.declared.expressions.InfixTree.{InfixTree, out-InfixTree}
 use Rattle.hs_modules.proofs.FoldingLemmas.{AExpTrees}
-use Rattle.hs_expression_forms.specs.declared.front.Front.{Front}
 use Rattle.hs_expression_forms.specs.declared.front.Front.TheVariants as fr
-use Rattle.hs_expression_forms.specs.Trees.{Trees, Makes, Embeds, within, behind_token, ended}
+use Rattle.hs_expression_forms.specs.Trees.{Makes, Embeds, behind_token, ended}
 use Rattle.hs_expression_forms.specs.Expressions.{aexps, is_aexp, is_exp, exp_parts, starts_operand, starts_exp, few}
-use Rattle.hs_expression_forms.specs.Fronts.{Inside, Bunch, bunch_of, bunches, insides, section_ops, right_sections, fixed}
-use Rattle.hs_expression_forms.specs.Fronts.{tuple_names, front_tokens}
+use Rattle.hs_expression_forms.specs.Fronts.{Inside, Bunch, bunch_of, bunches, insides, right_sections, fixed}
+use Rattle.hs_expression_forms.specs.Fronts.{tuple_names}
 use Rattle.hs_expression_forms.proofs.AExpLayerLemmas.{Parts, var_spelled, var_is, var_deep, con_spelled, con_is, con_deep}
 use Rattle.hs_expression_forms.proofs.AExpLayerLemmas.{literal_spelled, literal_is, literal_deep, parts_spelled, parts_is}
 use Rattle.hs_expression_forms.proofs.AExpLayerLemmas.{parts_deep, list_spelled, list_is, list_deep, left_spelled, left_is}
@@ -208,7 +201,8 @@ inside_spelled (inr p) =
 
 inside_is : (i : Inside) → is_aexp (make_inside i) ≡ insides.formed i
 inside_is (inl p) =
-    parts_is p ∙ ap (λ b. b && (is_exp p.0 && all_of (map is_exp p.1))) (few_is (length p.1) ∙ sym (and_true (few (Some 14) (length p.1))))
+    parts_is p ∙ ap (λ b. b && (is_exp p.0 && all_of (map is_exp p.1))) (few_is (length p.1)
+    ∙ sym (and_true (few (Some 14) (length p.1))))
 inside_is (inr p) = left_is p.0 p.1 ∙ sym (and_true _)
 
 inside_deep : (i : Inside) → aexps.deep (make_inside i) ≡ insides.deep i + 1
@@ -265,8 +259,10 @@ AExpOf x (suc (suc (suc (suc (suc (suc (suc (suc zero)))))))) = (n : List ℕ) �
 AExpOf x (suc (suc (suc (suc (suc (suc (suc (suc (suc zero))))))))) = (n : List ℕ) × (x ≡ a.Var (q.QualifiedSym n))
 AExpOf x (suc (suc (suc (suc (suc (suc (suc (suc (suc (suc zero)))))))))) = (n : List ℕ) × (x ≡ a.Con (g.Sym n))
 AExpOf x (suc (suc (suc (suc (suc (suc (suc (suc (suc (suc (suc zero))))))))))) = (u : Unit {0}) × (x ≡ a.Con g.Colon)
-AExpOf x (suc (suc (suc (suc (suc (suc (suc (suc (suc (suc (suc (suc zero)))))))))))) = (i : Inside) × (x ≡ make_inside i)
-AExpOf x (suc (suc (suc (suc (suc (suc (suc (suc (suc (suc (suc (suc (suc zero))))))))))))) = (p : QOpTree × InfixTree) × (x ≡ make_right p)
+AExpOf x (suc (suc (suc (suc (suc (suc (suc (suc (suc (suc (suc (suc zero)))))))))))) = (i : Inside)
+    × (x ≡ make_inside i)
+AExpOf x (suc (suc (suc (suc (suc (suc (suc (suc (suc (suc (suc (suc (suc zero))))))))))))) = (p : QOpTree
+    × InfixTree) × (x ≡ make_right p)
 AExpOf x _ = ⊥
 
 record AExpView (x : AExpTree) : Type 0 where
@@ -357,39 +353,52 @@ names_makes n tokens make spelled is deep class back = record {
 
 pub id_makes : Makes aexps (fixed (λ (n : List ℕ). t.Var n ∷ [])) (λ n. a.Var (q.Id n)) 0 (aexp_test 1)
 unfolding AExpOf
-id_makes = names_makes 1 (λ (n : List ℕ). t.Var n ∷ []) (λ n. a.Var (q.Id n)) (λ n. var_spelled (q.Id n)) (λ n. var_is (q.Id n)) (λ n. var_deep (q.Id n)) (λ n after. refl) (λ x h. h)
+id_makes = names_makes 1 (λ (n : List ℕ). t.Var n ∷ []) (λ n. a.Var (q.Id n)) (λ n. var_spelled (q.Id n))
+    (λ n. var_is (q.Id n)) (λ n. var_deep (q.Id n)) (λ n after. refl) (λ x h. h)
 
-pub qualified_id_makes : Makes aexps (fixed (λ (n : List ℕ). t.QVar n ∷ [])) (λ n. a.Var (q.QualifiedId n)) 0 (aexp_test 2)
+pub qualified_id_makes : Makes aexps (fixed (λ (n : List ℕ). t.QVar n ∷ [])) (λ n. a.Var (q.QualifiedId n)) 0
+    (aexp_test 2)
 unfolding AExpOf
-qualified_id_makes = names_makes 2 (λ (n : List ℕ). t.QVar n ∷ []) (λ n. a.Var (q.QualifiedId n)) (λ n. var_spelled (q.QualifiedId n)) (λ n. var_is (q.QualifiedId n)) (λ n. var_deep (q.QualifiedId n)) (λ n after. refl) (λ x h. h)
+qualified_id_makes = names_makes 2 (λ (n : List ℕ). t.QVar n ∷ []) (λ n. a.Var (q.QualifiedId n)) (λ n. var_spelled
+    (q.QualifiedId n)) (λ n. var_is (q.QualifiedId n)) (λ n. var_deep (q.QualifiedId n)) (λ n after. refl) (λ x h. h)
 
 pub con_makes : Makes aexps (fixed (λ (n : List ℕ). t.Con n ∷ [])) (λ n. a.Con (g.Con n)) 0 (aexp_test 3)
 unfolding AExpOf
-con_makes = names_makes 3 (λ (n : List ℕ). t.Con n ∷ []) (λ n. a.Con (g.Con n)) (λ n. con_spelled (g.Con n)) (λ n. con_is (g.Con n)) (λ n. con_deep (g.Con n)) (λ n after. refl) (λ x h. h)
+con_makes = names_makes 3 (λ (n : List ℕ). t.Con n ∷ []) (λ n. a.Con (g.Con n)) (λ n. con_spelled (g.Con n))
+    (λ n. con_is (g.Con n)) (λ n. con_deep (g.Con n)) (λ n after. refl) (λ x h. h)
 
 pub literal_makes : Makes aexps (fixed (λ (x : LiteralTree). literal_token x ∷ [])) (a.Literal) 0 (aexp_test 4)
 unfolding AExpOf
-literal_makes = names_makes 4 (λ (x : LiteralTree). literal_token x ∷ []) (a.Literal) (literal_spelled) (literal_is) (literal_deep) (literal_class) (λ x h. h)
+literal_makes = names_makes 4 (λ (x : LiteralTree). literal_token x ∷ []) (a.Literal) (literal_spelled) (literal_is)
+    (literal_deep) (literal_class) (λ x h. h)
 
-pub nil_makes : Makes aexps (fixed (λ (u : Unit {0}). t.LeftBracket ∷ t.RightBracket ∷ [])) (λ u. a.Con g.List) 0 (aexp_test 5)
+pub nil_makes : Makes aexps (fixed (λ (u : Unit {0}). t.LeftBracket ∷ t.RightBracket ∷ [])) (λ u. a.Con g.List) 0
+    (aexp_test 5)
 unfolding AExpOf
-nil_makes = names_makes 5 (λ (u : Unit {0}). t.LeftBracket ∷ t.RightBracket ∷ []) (λ u. a.Con g.List) (λ u. con_spelled g.List) (λ u. con_is g.List) (λ u. con_deep g.List) (λ u after. refl) (λ x h. h)
+nil_makes = names_makes 5 (λ (u : Unit {0}). t.LeftBracket ∷ t.RightBracket ∷ []) (λ u. a.Con g.List)
+    (λ u. con_spelled g.List) (λ u. con_is g.List) (λ u. con_deep g.List) (λ u after. refl) (λ x h. h)
 
 pub sym_makes : Makes aexps (fixed (λ (n : List ℕ). bracketed (t.VarSym n))) (λ n. a.Var (q.Sym n)) 0 (aexp_test 8)
 unfolding AExpOf
-sym_makes = names_makes 8 (λ (n : List ℕ). bracketed (t.VarSym n)) (λ n. a.Var (q.Sym n)) (λ n. var_spelled (q.Sym n)) (λ n. var_is (q.Sym n)) (λ n. var_deep (q.Sym n)) (λ n after. refl) (λ x h. h)
+sym_makes = names_makes 8 (λ (n : List ℕ). bracketed (t.VarSym n)) (λ n. a.Var (q.Sym n)) (λ n. var_spelled
+    (q.Sym n)) (λ n. var_is (q.Sym n)) (λ n. var_deep (q.Sym n)) (λ n after. refl) (λ x h. h)
 
-pub qualified_sym_makes : Makes aexps (fixed (λ (n : List ℕ). bracketed (t.QVarSym n))) (λ n. a.Var (q.QualifiedSym n)) 0 (aexp_test 9)
+pub qualified_sym_makes : Makes aexps (fixed (λ (n : List ℕ). bracketed (t.QVarSym n))) (λ n. a.Var
+    (q.QualifiedSym n)) 0 (aexp_test 9)
 unfolding AExpOf
-qualified_sym_makes = names_makes 9 (λ (n : List ℕ). bracketed (t.QVarSym n)) (λ n. a.Var (q.QualifiedSym n)) (λ n. var_spelled (q.QualifiedSym n)) (λ n. var_is (q.QualifiedSym n)) (λ n. var_deep (q.QualifiedSym n)) (λ n after. refl) (λ x h. h)
+qualified_sym_makes = names_makes 9 (λ (n : List ℕ). bracketed (t.QVarSym n)) (λ n. a.Var (q.QualifiedSym n))
+    (λ n. var_spelled (q.QualifiedSym n)) (λ n. var_is (q.QualifiedSym n)) (λ n. var_deep (q.QualifiedSym n))
+    (λ n after. refl) (λ x h. h)
 
 pub con_sym_makes : Makes aexps (fixed (λ (n : List ℕ). bracketed (t.ConSym n))) (λ n. a.Con (g.Sym n)) 0 (aexp_test 10)
 unfolding AExpOf
-con_sym_makes = names_makes 10 (λ (n : List ℕ). bracketed (t.ConSym n)) (λ n. a.Con (g.Sym n)) (λ n. con_spelled (g.Sym n)) (λ n. con_is (g.Sym n)) (λ n. con_deep (g.Sym n)) (λ n after. refl) (λ x h. h)
+con_sym_makes = names_makes 10 (λ (n : List ℕ). bracketed (t.ConSym n)) (λ n. a.Con (g.Sym n)) (λ n. con_spelled
+    (g.Sym n)) (λ n. con_is (g.Sym n)) (λ n. con_deep (g.Sym n)) (λ n after. refl) (λ x h. h)
 
 pub colon_makes : Makes aexps (fixed (λ (u : Unit {0}). bracketed t.Colon)) (λ u. a.Con g.Colon) 0 (aexp_test 11)
 unfolding AExpOf
-colon_makes = names_makes 11 (λ (u : Unit {0}). bracketed t.Colon) (λ u. a.Con g.Colon) (λ u. con_spelled g.Colon) (λ u. con_is g.Colon) (λ u. con_deep g.Colon) (λ u after. refl) (λ x h. h)
+colon_makes = names_makes 11 (λ (u : Unit {0}). bracketed t.Colon) (λ u. a.Con g.Colon) (λ u. con_spelled g.Colon)
+    (λ u. con_is g.Colon) (λ u. con_deep g.Colon) (λ u after. refl) (λ x h. h)
 
 same_class : (n : ℕ) → nat_eq n n ≡ true
 same_class n = grind (arith, nat_tests)
@@ -431,7 +440,8 @@ right_makes = record {
   only = λ x after good e. aexp_only 13 x after good e;
 }
 
-pub list_makes : Makes aexps (behind_token t.LeftBracket (ended (exp_parts None) t.RightBracket)) (λ p. a.List p.0 p.1) 1
+pub list_makes : Makes aexps (behind_token t.LeftBracket (ended (exp_parts None) t.RightBracket))
+    (λ p. a.List p.0 p.1) 1
     (aexp_test 6)
 unfolding AExpOf
 list_makes = record {

@@ -1,25 +1,23 @@
 -- What stands between round brackets, as a chain.
-use Rattle.std.proofs.Common.{◌≡◌, ℕ, zero, suc, ◌+◌, ◌<◌, ◌≤◌, Bool, true, false, List, [], ◌∷◌, ◌++◌, length, refl}
-use Rattle.std.proofs.Common.{sym, ap, ◌∙◌, subst, true≢false, arith, length-append, append_assoc, inl, inr, ◌⊎◌}
-use Rattle.std.specs.Prelude.{max, map, flat_map, not, ◌&&◌, ◌||◌, Option, Some, None}
+use Rattle.std.proofs.Common.{◌≡◌, ℕ, ◌+◌, Bool, true, false, List, [], ◌∷◌, ◌++◌, length, refl}
+use Rattle.std.proofs.Common.{sym, ap, ◌∙◌, true≢false, arith, length-append}
+use Rattle.std.specs.Prelude.{max, map, not, ◌&&◌, ◌||◌, Option, Some}
 use Rattle.std.proofs.lemmas.Bool.{and_from}
-use Rattle.hs_forms.specs.Reading.{begins}
 use Rattle.hs_forms.specs.Limits.{Within, deepest, all_of}
 use Rattle.hs_forms.specs.Productions.{Chain}
-use Rattle.hs_forms.proofs.LimitLemmas.{within_less, within_max, within_zero, and_left, and_right, all_here, all_more}
+use Rattle.hs_forms.proofs.LimitLemmas.{within_less, within_max, and_left, and_right, all_here, all_more}
 use Rattle.hs_forms.proofs.LimitLemmas.{deep_here, deep_more, or_left, or_right}
 use Rattle.hs_tokens.specs.Terminals.{is_comma}
 use Rattle.hs_tokens.specs.declared.terminal.Terminal.{Terminal}
 use Rattle.hs_tokens.specs.declared.terminal.Terminal.TheVariants as t
-use Rattle.hs_trees.specs.Patterns.{Ts}
 use Rattle.hs_modules.specs.Tokens.{spelling_exp}
 use Rattle.hs_modules.specs.Formed.{facts_of_exp}
 use Rattle.hs_modules.specs.declared.expressions.ExpTree.{ExpTree}
 use Rattle.hs_expression_forms.specs.declared.front.Front.{Front}
 use Rattle.hs_expression_forms.specs.declared.front.Front.TheVariants as fr
 use Rattle.hs_expression_forms.specs.Trees.{Trees, within}
-use Rattle.hs_expression_forms.specs.Expressions.{few, last_part, is_exp, depth_of_exp, exps, exp_goes_on, goes_on}
-use Rattle.hs_expression_forms.specs.Fronts.{front_tokens, front_formed, front_deep, front_goes_on, fronts, Bunch}
+use Rattle.hs_expression_forms.specs.Expressions.{few, is_exp, depth_of_exp, exps, goes_on}
+use Rattle.hs_expression_forms.specs.Fronts.{front_formed, front_deep, front_goes_on, fronts, Bunch}
 use Rattle.hs_expression_forms.specs.Fronts.{is_section, is_empty, bunch_goes_on, bunches}
 use Rattle.hs_expression_forms.proofs.ListedLemmas.{few_within, within_few, last_more, Lists}
 
@@ -89,11 +87,13 @@ module _ (limit : Option ℕ) where
       let long = length-append xs (x ∷ []) in
       let new = deep_more depth_of_exp xs x in
       let parts = (counts h xs good).1 in (
-        and_from _ _ (and_from _ _ (within_few (Some 14) _ (within_less (Some 14) _ (length xs + 1) (omega arith) room.1))
+        and_from _ _ (and_from _ _ (within_few (Some 14) _ (within_less (Some 14) _ (length xs + 1)
+            (omega arith) room.1))
             (section_off (is_section h) _ room.0))
             (and_from _ _ (and_left (front_formed true h) _ parts)
             (all_more is_exp xs x (and_right (front_formed true h) _ parts) item.0)),
-        within_less limit _ (max (max (front_deep h) (deepest (map depth_of_exp xs))) (depth_of_exp x) + 0) (omega arith)
+        within_less limit _ (max (max (front_deep h) (deepest (map depth_of_exp xs))) (depth_of_exp x) + 0)
+            (omega arith)
             (within_max limit _ _ 0 (within_less limit _ _ (omega arith) good.1)
             (within_less limit _ _ (omega arith) item.1)),
       )

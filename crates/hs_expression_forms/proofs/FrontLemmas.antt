@@ -1,26 +1,23 @@
 -- Expressions and the fronts of left sections, from chains.
-use Rattle.std.proofs.Common.{◌≡◌, ℕ, zero, suc, ◌+◌, ◌<◌, ◌≤◌, Bool, true, false, List, [], ◌∷◌, ◌++◌, length, refl}
-use Rattle.std.proofs.Common.{sym, ap, ◌∙◌, subst, true≢false, arith, length-append, append_assoc, inl, inr, ◌⊎◌}
-use Rattle.std.specs.Prelude.{max, not, ◌&&◌, ◌||◌, Option, Some, None}
+use Rattle.std.proofs.Common.{◌≡◌, ℕ, ◌+◌, Bool, true, false, [], ◌∷◌, ◌++◌, length, refl}
+use Rattle.std.proofs.Common.{sym, ap, ◌∙◌, subst, true≢false, arith, append_assoc}
+use Rattle.std.specs.Prelude.{max, not, ◌&&◌, Option, Some, None}
 use Rattle.std.proofs.lemmas.Bool.{and_from}
 use Rattle.std.proofs.lemmas.List.{append-nil}
-use Rattle.hs_forms.specs.Reading.{SameStart, begins, Reads, Refuses}
+use Rattle.hs_forms.specs.Reading.{SameStart, begins, Refuses}
 use Rattle.hs_forms.specs.Limits.{Within, lowered}
-use Rattle.hs_forms.specs.Answers.{Accepts, Rejects, Fails}
+use Rattle.hs_forms.specs.Answers.{Rejects}
 use Rattle.hs_forms.specs.declared.fault.Fault.{Fault}
-use Rattle.hs_forms.proofs.FormLemmas.{begins_within, begins_same, begins_append, same_start_append, uncons}
+use Rattle.hs_forms.proofs.FormLemmas.{begins_within, begins_same, same_start_append, uncons}
 use Rattle.hs_forms.proofs.LimitLemmas.{within_less, within_raised, within_lowered, within_max, and_left, and_right}
 use Rattle.hs_forms.proofs.LimitLemmas.{or_left, or_right}
 use Rattle.hs_forms.proofs.StateLemmas.{fails_after}
-use Rattle.hs_tokens.specs.declared.terminal.Terminal.{Terminal}
 use Rattle.hs_tokens.specs.declared.terminal.Terminal.TheVariants as t
 use Rattle.hs_trees.specs.Types.{spelling_type, is_type, depth_of_type}
 use Rattle.hs_trees.specs.Patterns.{Ts}
 use Rattle.hs_trees.specs.declared.types.TypeTree.{TypeTree}
 use Rattle.hs_modules.specs.Extents.{depth_of}
-use Rattle.hs_modules.specs.PartExtents.{extent_of_type}
-use Rattle.hs_modules.specs.ExpressionExtents.{extent_algebra, extent_of_exp, extent_of_infix}
-use Rattle.hs_modules.specs.Words.{qop_tokens}
+use Rattle.hs_modules.specs.ExpressionExtents.{extent_algebra}
 use Rattle.hs_modules.specs.Tokens.{token_algebra, spelling_exp, spelling_infix}
 use Rattle.hs_modules.specs.Formed.{Facts, fact_algebra, good_of, facts_of_exp, facts_of_infix}
 use Rattle.hs_modules.specs.declared.names.QOpTree.{QOpTree}
@@ -32,12 +29,12 @@ use Rattle.hs_modules.proofs.FoldingLemmas.{ExpTrees, exp_folded}
 use Rattle.hs_modules.proofs.PartDepthLemmas.{type_depth_is}
 use Rattle.hs_expression_forms.specs.declared.front.Front.{Front}
 use Rattle.hs_expression_forms.specs.declared.front.Front.TheVariants as fr
-use Rattle.hs_expression_forms.specs.Trees.{Trees, within, Took, Failed, Embeds}
+use Rattle.hs_expression_forms.specs.Trees.{within, Took, Failed, Embeds}
 use Rattle.hs_expression_forms.specs.Expressions.{is_infix, depth_of_infix, is_exp, depth_of_exp, goes_on, exps, infixes}
 use Rattle.hs_expression_forms.specs.Expressions.{types, is_double_colon, exp_goes_on, infix_goes_on, starts_aexp}
-use Rattle.hs_expression_forms.specs.Expressions.{starts_qop, starts_exp, starts_operand}
+use Rattle.hs_expression_forms.specs.Expressions.{starts_qop}
 use Rattle.hs_expression_forms.specs.Links.{Links, links}
-use Rattle.hs_expression_forms.specs.Fronts.{front_tokens, front_formed, front_deep, front_goes_on, fronts}
+use Rattle.hs_expression_forms.specs.Fronts.{front_tokens, front_deep, front_goes_on, fronts}
 use Rattle.hs_expression_forms.proofs.StarterLemmas.{goes_on_fewer, type_quiet}
 use Rattle.hs_expression_forms.proofs.PieceLemmas.{not_on, not_off}
 
@@ -51,7 +48,8 @@ plain_facts x = ap facts_of_exp (sym (v.rolls-Infix x)) ∙ exp_folded fact_alge
 
 pub plain_deep : (x : InfixTree) → depth_of_exp (v.Infix x) ≡ depth_of_infix x
 unfolding extent_algebra
-plain_deep x = ap (λ y. depth_of_exp y) (sym (v.rolls-Infix x)) ∙ ap depth_of (exp_folded extent_algebra (ExpTree-F.Infix x))
+plain_deep x = ap (λ y. depth_of_exp y) (sym (v.rolls-Infix x)) ∙ ap depth_of (exp_folded extent_algebra
+    (ExpTree-F.Infix x))
 
 pub typed_spelled : (x : InfixTree) (ty : TypeTree) →
     spelling_exp (v.Annotated x ty) ≡ spelling_infix x ++ t.DoubleColon ∷ spelling_type ty
@@ -109,15 +107,19 @@ pub data FrontCase (lone : Bool) (limit : Option ℕ) (other : Front) (s after :
       begins ((links lone).extends l) after ≡ false →
       ((x : InfixTree) → l ≡ (x, None) → begins is_double_colon after ≡ false) →
       s ≡ (links lone).tokens l ++ after → FrontCase lone limit other s after
-  of_typed : (x : InfixTree) (ty : TypeTree) → other ≡ fr.Exp (v.Annotated x ty) → (within (links lone) limit).Good (x, None) →
-      (facts_of_infix x).is_open ≡ false → is_type ty ≡ true → Within limit (max (depth_of_infix x) (depth_of_type ty) + 1) →
+  of_typed : (x : InfixTree) (ty : TypeTree) → other ≡ fr.Exp (v.Annotated x ty) →
+      (within (links lone) limit).Good (x, None) →
+      (facts_of_infix x).is_open ≡ false → is_type ty ≡ true → Within limit (max (depth_of_infix x)
+      (depth_of_type ty) + 1) →
       begins (types.extends ty) after ≡ false →
-      s ≡ (links lone).tokens (x, None) ++ t.DoubleColon ∷ (spelling_type ty ++ after) → FrontCase lone limit other s after
+      s ≡ (links lone).tokens (x, None) ++ t.DoubleColon ∷ (spelling_type ty ++ after) →
+      FrontCase lone limit other s after
 
 module _ (lone : Bool) (limit : Option ℕ) where
   front_case : (other : Front) (s after : Ts) → (within (fronts lone) limit).Good other →
       begins (front_goes_on other) after ≡ false → s ≡ front_tokens other ++ after → FrontCase lone limit other s after
-  front_case (fr.Section x op) s after good quiet e = of_links (x, Some op) refl good quiet (λ x is. absurd (some_none op (ap (λ (l : Links). l.1) is))) e
+  front_case (fr.Section x op) s after good quiet e = of_links (x, Some op) refl good quiet (λ x is. absurd
+      (some_none op (ap (λ (l : Links). l.1) is))) e
     where
       some_none : (op : QOpTree) → Some op ≡ None → ⊥
       some_none op h = cc
@@ -132,7 +134,8 @@ module _ (lone : Bool) (limit : Option ℕ) where
           (begins_within (exp_goes_on (facts_of_exp x)) (infix_goes_on (facts_of_infix c)) after
           (λ k h. goes_on_fewer true true (facts_of_exp x).ends_in_type true (facts_of_infix c).is_open
           (facts_of_infix c).ends_in_type k (λ h. refl) (λ h. refl)
-          (λ h. ap (λ y. (facts_of_exp y).ends_in_type) is ∙ ap (λ (f : Facts). f.ends_in_type) (plain_facts c) ∙ h) h) quiet)
+          (λ h. ap (λ y. (facts_of_exp y).ends_in_type) is ∙ ap (λ (f : Facts). f.ends_in_type) (plain_facts c)
+          ∙ h) h) quiet)
           (λ y h. begins_within (exp_goes_on (facts_of_exp x)) is_double_colon after
           (λ k h. or_left (is_double_colon k) _ (or_right (starts_qop k) _ (or_right (starts_aexp k) _ h))) quiet)
           (e ∙ ap (λ y. spelling_exp y ++ after) is ∙ ap (λ l. l ++ after) (front_of_tokens lone (c, None)))
@@ -144,7 +147,8 @@ module _ (lone : Bool) (limit : Option ℕ) where
           (not_on (facts_of_infix c).is_open (and_right (is_infix c) _ both))
           (and_right (is_infix c && not (facts_of_infix c).is_open) _ g) deep
           (begins_within (exp_goes_on (facts_of_exp x)) (types.extends ty) after
-          (λ k h. type_quiet true true k (ap (λ b. goes_on true true b k) (sym (ap (λ y. (facts_of_exp y).ends_in_type) is
+          (λ k h. type_quiet true true k (ap (λ b. goes_on true true b k) (sym (ap (λ y.
+          (facts_of_exp y).ends_in_type) is
           ∙ ap (λ (f : Facts). f.ends_in_type) (typed_facts c ty))) ∙ h)) quiet)
           (e ∙ ap (λ y. spelling_exp y ++ after) is ∙ ap (λ l. l ++ after) (typed_spelled c ty)
           ∙ append_assoc (spelling_infix c) (t.DoubleColon ∷ spelling_type ty) after
@@ -153,7 +157,12 @@ module _ (lone : Bool) (limit : Option ℕ) where
   -- no annotation extends a closed chain
   closed_quiet : (x : InfixTree) (more : Ts) → (facts_of_infix x).is_open ≡ false →
       begins ((links lone).extends (x, None)) (t.DoubleColon ∷ more) ≡ false
-  closed_quiet x more shut = ap (λ b. infix_goes_on (record { good = true; is_open = b; ends_in_type = (facts_of_infix x).ends_in_type }) t.DoubleColon) shut
+  closed_quiet x more shut = ap (λ b. infix_goes_on (record {
+    good = true;
+    is_open = b;
+    ends_in_type =
+        (facts_of_infix x).ends_in_type;
+  }) t.DoubleColon) shut
       ∙ ends (facts_of_infix x).ends_in_type
     where
       ends : (b : Bool) → goes_on true false b t.DoubleColon ≡ false
@@ -161,10 +170,12 @@ module _ (lone : Bool) (limit : Option ℕ) where
       ends false = refl
 
   typed_good : (x : InfixTree) (ty : TypeTree) → (within (links lone) limit).Good (x, None) →
-      (facts_of_infix x).is_open ≡ false → Within limit (depth_of_infix x + 1) → (within types (lowered limit 1)).Good ty →
+      (facts_of_infix x).is_open ≡ false → Within limit (depth_of_infix x + 1) →
+      (within types (lowered limit 1)).Good ty →
       (within (fronts lone) limit).Good (fr.Exp (v.Annotated x ty))
   typed_good x ty good shut room g = (
-    ap good_of (typed_facts x ty) ∙ and_from _ _ (and_from (is_infix x) _ good.0 (not_off (facts_of_infix x).is_open shut)) g.0,
+    ap good_of (typed_facts x ty) ∙ and_from _ _ (and_from (is_infix x) _ good.0 (not_off
+        (facts_of_infix x).is_open shut)) g.0,
     subst (Within limit) (sym (typed_deep x ty)) (within_max limit (depth_of_infix x) (depth_of_type ty) 1 room
         (within_raised limit (depth_of_type ty) 1 (within_less limit _ _ (omega arith) room) g.1)),
   )
@@ -225,7 +236,8 @@ module _ (lone : Bool) (limit : Option ℕ) where
     abbrev front : Ts
     front = (links lone).tokens (x, None)
 
-    only_typed : (s : Ts) (other : Front) (after : Ts) → SameStart here s → FrontCase lone limit other (front ++ s) after →
+    only_typed : (s : Ts) (other : Front) (after : Ts) → SameStart here s →
+        FrontCase lone limit other (front ++ s) after →
         (ty : TypeTree) × (other ≡ fr.Exp (v.Annotated x ty)) × (is_type ty ≡ true)
         × Within limit (max (depth_of_infix x) (depth_of_type ty) + 1) × (begins (types.extends ty) after ≡ false)
         × (s ≡ t.DoubleColon ∷ (spelling_type ty ++ after))
@@ -246,7 +258,8 @@ module _ (lone : Bool) (limit : Option ℕ) where
         )
 
     refused_typed : (before bad : Ts) → here ≡ before ++ bad → (more : Ts) (ty : TypeTree) →
-        (within (fronts lone) limit).Good (fr.Exp (v.Annotated x ty)) → before ++ more ≡ t.DoubleColon ∷ spelling_type ty →
+        (within (fronts lone) limit).Good (fr.Exp (v.Annotated x ty)) →
+        before ++ more ≡ t.DoubleColon ∷ spelling_type ty →
         ((s : Ts) (ty : TypeTree) (after : Ts) → SameStart bad s → is_type ty ≡ true →
         Within limit (max (depth_of_infix x) (depth_of_type ty) + 1) → begins (types.extends ty) after ≡ false →
         before ++ s ≡ t.DoubleColon ∷ (spelling_type ty ++ after) → ⊥) →
@@ -257,7 +270,8 @@ module _ (lone : Bool) (limit : Option ℕ) where
         fr.Exp (v.Annotated x ty),
         good,
         append_assoc front before more ∙ ap (λ l. front ++ l) spelled
-            ∙ ap (λ l. l ++ t.DoubleColon ∷ spelling_type ty) (append-nil (spelling_infix x)) ∙ sym (typed_spelled x ty),
+            ∙ ap (λ l. l ++ t.DoubleColon ∷ spelling_type ty) (append-nil (spelling_infix x))
+            ∙ sym (typed_spelled x ty),
       );
       never = λ s other after same good quiet e.
           let same' : SameStart here (before ++ s) =
@@ -290,7 +304,8 @@ module _ (lone : Bool) (limit : Option ℕ) where
     pub typed_failed : Within limit (m + 1) → (e : Fault) → Failed types (lowered limit 1) next e →
         Failed (fronts lone) limit ts e
     typed_failed room e r =
-        fails_after (within (fronts lone) limit) (within types (lowered limit 1)) (front ++ t.DoubleColon ∷ []) ts next e
+        fails_after (within (fronts lone) limit) (within types (lowered limit 1))
+        (front ++ t.DoubleColon ∷ []) ts next e
         (acc.spelled ∙ ap (λ l. front ++ l) at ∙ sym (append_assoc front (t.DoubleColon ∷ []) next))
         (λ before bad split q.
         subst (λ l. Refuses (within (fronts lone) limit) l bad) (sym (append_assoc front (t.DoubleColon ∷ []) before))
@@ -298,9 +313,11 @@ module _ (lone : Bool) (limit : Option ℕ) where
         (typed_good x q.begun.1 acc.reads.good shut (subst (λ n. Within limit (n + 1)) acc.measured_is room) q.begun.2)
         (ap (λ l. t.DoubleColon ∷ l) q.begun.3)
         (λ s ty after same is deep quiet e. q.never s ty after same
-        (is, within_lowered limit (depth_of_type ty) 1 (within_less limit _ _ (omega arith) deep)) quiet (uncons _ _ _ e)))) r
+        (is, within_lowered limit (depth_of_type ty) 1 (within_less limit _ _ (omega arith) deep)) quiet
+        (uncons _ _ _ e)))) r
 
-    pub typed_took : Within limit (m + 1) → (ty : TypeTree) (rest : Ts) (n : ℕ) → Took types (lowered limit 1) next ty rest n →
+    pub typed_took : Within limit (m + 1) → (ty : TypeTree) (rest : Ts) (n : ℕ) →
+        Took types (lowered limit 1) next ty rest n →
         Took (fronts lone) limit ts (fr.Exp (v.Annotated x ty)) rest (max m n + 1)
     typed_took room ty rest n q = record {
       spelled = acc.spelled ∙ ap (λ l. front ++ l) (at ∙ ap (λ l. t.DoubleColon ∷ l) q.spelled)
@@ -308,7 +325,8 @@ module _ (lone : Bool) (limit : Option ℕ) where
           ∙ ap (λ l. (l ++ t.DoubleColon ∷ spelling_type ty) ++ rest) (append-nil (spelling_infix x))
           ∙ ap (λ l. l ++ rest) (sym (typed_spelled x ty));
       reads = record {
-        good = typed_good x ty acc.reads.good shut (subst (λ n. Within limit (n + 1)) acc.measured_is room) q.reads.good;
+        good = typed_good x ty acc.reads.good shut (subst (λ n. Within limit
+            (n + 1)) acc.measured_is room) q.reads.good;
         only = λ s other after same good quiet e.
             let s' = t.DoubleColon ∷ (spelling_type ty ++ s) in
             let same' : SameStart here s' =

@@ -1,56 +1,44 @@
 -- The returns of the reader of a chain of operators.
-use Rattle.std.proofs.Common.{◌≡◌, ℕ, zero, suc, ◌+◌, ◌<◌, ◌≤◌, Bool, true, false, List, [], ◌∷◌, ◌++◌, length, refl}
+use Rattle.std.proofs.Common.{◌≡◌, ℕ, ◌+◌, ◌≤◌, Bool, true, false, List, [], ◌∷◌, ◌++◌, length, refl}
 use Rattle.std.proofs.Common.{sym, ap, ◌∙◌, subst, true≢false, arith, length-append, append_assoc, inl, inr, ◌⊎◌}
-use Rattle.std.specs.Prelude.{map, max, not, flat_map, ◌&&◌, ◌||◌, Option, Some, None}
+use Rattle.std.specs.Prelude.{max, not, flat_map, ◌&&◌, Option, Some, None}
 use Rattle.std.proofs.lemmas.Bool.{and_from}
-use Rattle.std.proofs.lemmas.List.{append-nil, append_cancel_left}
+use Rattle.std.proofs.lemmas.List.{append-nil}
 use Rattle.std.proofs.lemmas.Grind.{flat_map-append}
-use Rattle.hs_forms.specs.Reading.{Form, SameStart, begins, Reads, Refuses}
-use Rattle.hs_forms.specs.Limits.{Within, lowered, deepest, all_of}
-use Rattle.hs_forms.specs.Answers.{Accepts, Rejects, Fails}
-use Rattle.hs_forms.specs.Forms.{item_form}
+use Rattle.hs_forms.specs.Reading.{SameStart, begins, Refuses}
+use Rattle.hs_forms.specs.Limits.{Within, lowered}
+use Rattle.hs_forms.specs.Answers.{Rejects, Fails}
 use Rattle.hs_forms.specs.declared.fault.Fault.{Fault}
 use Rattle.hs_forms.specs.declared.fault.Fault.TheVariants as f
-use Rattle.hs_forms.proofs.FormLemmas.{begins_within, begins_same, begins_append, same_start_append, uncons}
-use Rattle.hs_forms.proofs.LimitLemmas.{within_less, within_raised, within_lowered, within_max, within_zero, and_left}
-use Rattle.hs_forms.proofs.LimitLemmas.{and_right, or_left, or_right, deep_more}
-use Rattle.hs_forms.proofs.StateLemmas.{State, state_first, state_step, fails_after}
-use Rattle.hs_forms.proofs.ChainLemmas.{chain_first, chain_step, quiet_inner, quiet_head}
+use Rattle.hs_forms.proofs.FormLemmas.{begins_same, begins_append, same_start_append, uncons}
+use Rattle.hs_forms.proofs.LimitLemmas.{within_less, within_zero}
+use Rattle.hs_forms.proofs.StateLemmas.{fails_after}
 use Rattle.hs_tokens.specs.Terminals.{minus, is_minus}
-use Rattle.hs_tokens.specs.declared.terminal.Terminal.{Terminal}
-use Rattle.hs_tokens.specs.declared.terminal.Terminal.TheVariants as t
 use Rattle.hs_trees.specs.Patterns.{Ts}
 use Rattle.hs_modules.specs.Words.{qop_tokens}
 use Rattle.hs_modules.specs.ExpressionExtents.{sign}
 use Rattle.hs_modules.specs.Tokens.{sign_tokens, spelling_infix, spelling_operand}
-use Rattle.hs_modules.specs.Formed.{facts_of_operand, facts_of_infix}
+use Rattle.hs_modules.specs.Formed.{facts_of_infix}
 use Rattle.hs_modules.specs.declared.names.QOpTree.{QOpTree}
 use Rattle.hs_modules.specs.declared.names.QOpTree.TheVariants as q_of
 use Rattle.hs_modules.specs.declared.expressions.OperandTree.{OperandTree}
-use Rattle.hs_modules.specs.declared.expressions.InfixTree.{InfixTree, out-InfixTree, out-roll-InfixTree}
-use Rattle.hs_modules.specs.declared.expressions.OpOperand.{OpOperand, out-OpOperand, out-roll-OpOperand}
-use Rattle.hs_modules.specs.declared.expressions.SignedOperand.{SignedOperand, out-SignedOperand}
-use Rattle.hs_modules.specs.declared.expressions.SignedOperand.{out-roll-SignedOperand}
-use Rattle.hs_expression_forms.specs.Trees.{Trees, within, Took, Failed}
-use Rattle.hs_expression_forms.specs.Expressions.{is_operand, depth_of_operand, starts_operand, starts_exp, starts_qop}
-use Rattle.hs_expression_forms.specs.Expressions.{starts_aexp, is_infix, depth_of_infix, operands, qops}
-use Rattle.hs_expression_forms.specs.Links.{Maybe, maybe_tokens, maybe_open, maybe_deep, maybe_goes_on, maybes, Piece}
-use Rattle.hs_expression_forms.specs.Links.{piece_tokens, piece_deep, last_maybe, pieces_form, pieces_formed, Placed, first_pieces}
-use Rattle.hs_expression_forms.specs.Links.{Links, links_head, links_pieces, links, link_of, sign_of, head_of, head_piece}
-use Rattle.hs_expression_forms.specs.Links.{pieces_of_link, tail_pieces}
-use Rattle.hs_expression_forms.proofs.PieceLemmas.{pieces_chain, piece_item, piece_starts, pieces_more, last_more}
-use Rattle.hs_expression_forms.proofs.PieceLemmas.{qop_operand, qop_starts}
-use Rattle.hs_expression_forms.proofs.LinkLayerLemmas.{links_good, links_quiet, links_spelled, infix_deep, infix_formed}
-use Rattle.hs_expression_forms.proofs.LinkLayerLemmas.{infix_last, infix_good, negated_of, operand_of}
-use Rattle.hs_expression_forms.proofs.LinkLemmas.{LinkState, Meeting, Next, ends, alone, plain, signed, meet, make_infix}
-use Rattle.hs_expression_forms.proofs.LinkLemmas.{make_signed, make_link, links_same}
+use Rattle.hs_modules.specs.declared.expressions.InfixTree.{InfixTree}
+use Rattle.hs_expression_forms.specs.Trees.{within, Took}
+use Rattle.hs_expression_forms.specs.Expressions.{is_operand, depth_of_operand, starts_exp, starts_qop}
+use Rattle.hs_expression_forms.specs.Expressions.{is_infix, depth_of_infix, operands, qops}
+use Rattle.hs_expression_forms.specs.Links.{Maybe, maybe_tokens, maybe_open, Piece}
+use Rattle.hs_expression_forms.specs.Links.{piece_tokens, last_maybe, pieces_form}
+use Rattle.hs_expression_forms.specs.Links.{Links, links_head, links_pieces, links, link_of}
+use Rattle.hs_expression_forms.proofs.PieceLemmas.{pieces_chain, piece_starts}
+use Rattle.hs_expression_forms.proofs.LinkLayerLemmas.{links_good, links_spelled}
+use Rattle.hs_expression_forms.proofs.LinkLayerLemmas.{infix_last}
+use Rattle.hs_expression_forms.proofs.LinkLemmas.{LinkState, Meeting, Next, ends, alone, plain, signed, meet}
+use Rattle.hs_expression_forms.proofs.LinkLemmas.{links_same}
 use Rattle.hs_expression_forms.proofs.LinkStepLemmas.{Behind, lone_at, plain_at, signed_at, behind, infix_takes_qop}
 use Rattle.hs_expression_forms.proofs.LinkStepLemmas.{begins_none}
-use Rattle.hs_expression_forms.proofs.OperandLemmas.{operand_starts}
-use Rattle.hs_expression_forms.proofs.QOpLemmas.{qop_unique}
-use Rattle.hs_expression_forms.proofs.LinkReturnLemmas.{chain_pieces, add, add_pieces, add_head, made_pieces, made_head}
-use Rattle.hs_expression_forms.proofs.LinkReturnLemmas.{SignedTook, SignedRejects, over, part, SignedFails, minus_qop}
-use Rattle.hs_expression_forms.proofs.LinkReturnLemmas.{minus_operand, no_lone, alone_quiet, operand_not_minus}
+use Rattle.hs_expression_forms.proofs.LinkReturnLemmas.{chain_pieces, add, add_pieces, add_head}
+use Rattle.hs_expression_forms.proofs.LinkReturnLemmas.{over, part, SignedFails}
+use Rattle.hs_expression_forms.proofs.LinkReturnLemmas.{no_lone, alone_quiet, operand_not_minus}
 use Rattle.hs_expression_forms.proofs.LinkReturnLemmas.{operand_exp, split_is, depth_is, none_good, add_good}
 use Rattle.hs_expression_forms.proofs.LinkReturnLemmas.{front_is}
 use Rattle.hs_modules.specs.declared.expressions.OperandTree.TheVariants as d
@@ -58,7 +46,7 @@ use Rattle.hs_modules.specs.declared.expressions.AExpTree.TheVariants as a
 use Rattle.hs_trees.specs.declared.patterns.GConTree.TheVariants as g
 use Rattle.hs_expression_forms.proofs.AExpLayerLemmas.{con_is, con_deep}
 use Rattle.hs_expression_forms.proofs.OperandLayerLemmas.{apply_facts, apply_deep}
-use Rattle.hs_expression_forms.specs.Expressions.{depth_of_aexp, is_aexp}
+use Rattle.hs_expression_forms.specs.Expressions.{depth_of_aexp}
 use Rattle.hs_modules.specs.Formed.{good_of}
 
 -- a least operand
@@ -160,7 +148,8 @@ module _ (limit : Option ℕ) (ts : Ts) (x : InfixTree) (here : Ts) (deep ops : 
       ∙ ap (λ h. maybe_tokens h ++ flat_map piece_tokens (links_pieces (y, None))) (add_head x op b e)
       ∙ ap (λ l. maybe_tokens (links_head (x, None)) ++ flat_map piece_tokens l)
       (append-nil (chain_pieces y) ∙ add_pieces x op b e)
-      ∙ ap (λ l. maybe_tokens (links_head (x, None)) ++ l) (flat_map-append piece_tokens (chain_pieces x) (link_of op b e))
+      ∙ ap (λ l. maybe_tokens (links_head (x, None)) ++ l) (flat_map-append piece_tokens (chain_pieces x)
+      (link_of op b e))
       ∙ sym (append_assoc (maybe_tokens (links_head (x, None))) (flat_map piece_tokens (chain_pieces x))
       (flat_map piece_tokens (link_of op b e)))
       ∙ ap (λ l. l ++ flat_map piece_tokens (link_of op b e)) (front_is limit ts x here deep ops st)
@@ -198,7 +187,8 @@ module _ (limit : Option ℕ) (ts : Ts) (x : InfixTree) (here : Ts) (deep ops : 
             c.1,
             c.2,
             append_assoc (spelling_infix x) before (q.begun.0 ++ c.0)
-                ∙ ap (λ l. spelling_infix x ++ l) (sym (append_assoc before q.begun.0 c.0) ∙ ap (λ l. l ++ c.0) q.begun.3)
+                ∙ ap (λ l. spelling_infix x ++ l) (sym (append_assoc before q.begun.0 c.0)
+                ∙ ap (λ l. l ++ c.0) q.begun.3)
                 ∙ c.3,
           ));
           never = λ s other after same good quiet e.
@@ -215,11 +205,13 @@ module _ (limit : Option ℕ) (ts : Ts) (x : InfixTree) (here : Ts) (deep ops : 
                 begins ((links lone).extends other) after ≡ false →
                 (m : Meeting limit x deep ops other (before ++ s) after) → Next other m.more m.beyond → ⊥
             go before bad split q s other after same same' good quiet m (ends is none) =
-                begins_none ((links lone).extends other) starts_qop after (λ k h. infix_takes_qop lone other k none h) quiet
+                begins_none ((links lone).extends other) starts_qop after
+                (λ k h. infix_takes_qop lone other k none h) quiet
                 (ap (begins starts_qop) (sym (m.spelled ∙ ap (λ l. flat_map piece_tokens l ++ after) is))
                 ∙ begins_same starts_qop here (before ++ s) same' ∙ starts)
             go before bad split q s other after same same' good quiet m (alone op is o) =
-                at_op limit before bad q s after same op None [] (m.spelled ∙ ap (λ l. flat_map piece_tokens l ++ after) is)
+                at_op limit before bad q s after same op None [] (m.spelled
+                ∙ ap (λ l. flat_map piece_tokens l ++ after) is)
             go before bad split q s other after same same' good quiet m (plain op e ps is le) =
                 at_op limit before bad q s after same op (Some e) ps
                 (m.spelled ∙ ap (λ l. flat_map piece_tokens l ++ after) is)
@@ -237,7 +229,8 @@ module _ (limit : Option ℕ) (ts : Ts) (x : InfixTree) (here : Ts) (deep ops : 
       good = (let good = none_good limit ts x here deep ops st true in
           (and_from (is_infix x) _ good.0 (ap not shut), good.1));
       only = λ s other after same good quiet e.
-          let m = meet true limit ts x here deep ops st (qop_tokens op ++ s) other after (into s op rest at same) good quiet
+          let m = meet true limit ts x here deep ops st (qop_tokens op ++ s) other after
+          (into s op rest at same) good quiet
           (sym (append_assoc (spelling_infix x) (qop_tokens op) s) ∙ e) in
           go s other after same m (behind true limit x deep ops op other s after (sym st.ops_is) good quiet m);
     };
@@ -332,9 +325,11 @@ module _ (limit : Option ℕ) (ts : Ts) (x : InfixTree) (here : Ts) (deep ops : 
       refuses = record {
         begun = (let c = done op in (c.0, c.1, c.2, append_assoc (spelling_infix x) (qop_tokens op) c.0 ∙ c.3));
         never = λ s other after same good quiet e.
-            let m = meet lone limit ts x here deep ops st (qop_tokens op ++ s) other after (into s op rest at same) good quiet
+            let m = meet lone limit ts x here deep ops st (qop_tokens op ++ s) other after
+            (into s op rest at same) good quiet
             (sym (append_assoc (spelling_infix x) (qop_tokens op) s) ∙ e) in
-            go s other after same good quiet m (behind lone limit x deep ops op other s after (sym st.ops_is) good quiet m)
+            go s other after same good quiet m (behind lone limit x deep ops op other s after
+            (sym st.ops_is) good quiet m)
             (begins is_minus rest) refl full;
       };
     }
@@ -356,7 +351,8 @@ module _ (limit : Option ℕ) (ts : Ts) (x : InfixTree) (here : Ts) (deep ops : 
 
     next_part : (facts_of_infix x).is_open ≡ false → (next : Ts) (b : Bool) → begins is_minus rest ≡ b →
         rest ≡ sign_tokens b ++ next → Within limit (deep + ((ops + 1) + sign b)) → (left : ℕ) →
-        Rejects (within operands (lowered limit ((ops + 1) + sign b))) next left → Rejects (within (links lone) limit) ts left
+        Rejects (within operands (lowered limit ((ops + 1) + sign b))) next left →
+        Rejects (within (links lone) limit) ts left
     next_part shut next b is_b split room left r = record {
       before = (spelling_infix x ++ qop_tokens op) ++ (sign_tokens b ++ r.before);
       bad = r.bad;
@@ -372,16 +368,20 @@ module _ (limit : Option ℕ) (ts : Ts) (x : InfixTree) (here : Ts) (deep ops : 
           add_good limit ts x here deep ops st op b r.refuses.begun.1 shut r.refuses.begun.2 room lone,
           append_assoc (spelling_infix x ++ qop_tokens op) (sign_tokens b ++ r.before) r.refuses.begun.0
               ∙ append_assoc (spelling_infix x) (qop_tokens op) ((sign_tokens b ++ r.before) ++ r.refuses.begun.0)
-              ∙ ap (λ l. spelling_infix x ++ (qop_tokens op ++ l)) (append_assoc (sign_tokens b) r.before r.refuses.begun.0
+              ∙ ap (λ l. spelling_infix x ++ (qop_tokens op ++ l)) (append_assoc
+              (sign_tokens b) r.before r.refuses.begun.0
               ∙ ap (λ l. sign_tokens b ++ l) r.refuses.begun.3)
-              ∙ sym (add_spelled op b r.refuses.begun.1) ∙ sym (append-nil (spelling_infix (add x op b r.refuses.begun.1))),
+              ∙ sym (add_spelled op b r.refuses.begun.1) ∙ sym (append-nil (spelling_infix
+              (add x op b r.refuses.begun.1))),
         );
         never = λ s other after same good quiet e.
             let s' = sign_tokens b ++ (r.before ++ s) in
             let same' : SameStart rest s' =
             subst (λ l. SameStart l s') (sym (split ∙ ap (λ l. sign_tokens b ++ l) r.split))
-            (same_start_append (sign_tokens b) (r.before ++ r.bad) (r.before ++ s) (same_start_append r.before r.bad s same)) in
-            let m = meet lone limit ts x here deep ops st (qop_tokens op ++ s') other after (into s' op rest at same') good quiet
+            (same_start_append (sign_tokens b) (r.before ++ r.bad) (r.before ++ s)
+            (same_start_append r.before r.bad s same)) in
+            let m = meet lone limit ts x here deep ops st (qop_tokens op ++ s') other after
+            (into s' op rest at same') good quiet
             (ap (λ l. spelling_infix x ++ (qop_tokens op ++ l)) (sym (append_assoc (sign_tokens b) r.before s))
             ∙ sym (append_assoc (spelling_infix x) (qop_tokens op) ((sign_tokens b ++ r.before) ++ s))
             ∙ sym (append_assoc (spelling_infix x ++ qop_tokens op) (sign_tokens b ++ r.before) s) ∙ e) in

@@ -1,67 +1,51 @@
 -- The first operand of a chain, and one more.
-use Rattle.std.proofs.Common.{◌≡◌, ℕ, zero, suc, ◌+◌, ◌<◌, ◌≤◌, Bool, true, false, List, [], ◌∷◌, ◌++◌, length, refl}
-use Rattle.std.proofs.Common.{sym, ap, ◌∙◌, subst, true≢false, arith, length-append, append_assoc, inl, inr, ◌⊎◌}
-use Rattle.std.specs.Prelude.{map, max, not, flat_map, ◌&&◌, ◌||◌, ◌-◌, Option, Some, None}
+use Rattle.std.proofs.Common.{◌≡◌, ℕ, ◌+◌, ◌≤◌, Bool, true, false, List, [], ◌∷◌, ◌++◌, length, refl}
+use Rattle.std.proofs.Common.{sym, ap, ◌∙◌, subst, true≢false, arith, length-append, append_assoc}
+use Rattle.std.specs.Prelude.{map, max, flat_map, ◌-◌, Option, Some, None}
 use Rattle.std.proofs.lemmas.Bool.{and_from}
-use Rattle.std.proofs.lemmas.List.{append-nil, append_cancel_left}
-use Rattle.std.proofs.lemmas.Grind.{flat_map-append}
-use Rattle.hs_forms.specs.Reading.{Form, SameStart, begins, Reads, Refuses}
-use Rattle.hs_forms.specs.Limits.{Within, lowered, deepest, all_of}
-use Rattle.hs_forms.specs.Answers.{Accepts, Rejects, Fails}
+use Rattle.std.proofs.lemmas.List.{append-nil}
+use Rattle.hs_forms.specs.Reading.{SameStart, begins, Reads, Refuses}
+use Rattle.hs_forms.specs.Limits.{Within, lowered, deepest}
+use Rattle.hs_forms.specs.Answers.{Rejects, Fails}
 use Rattle.hs_forms.specs.Forms.{item_form}
 use Rattle.hs_forms.specs.declared.fault.Fault.{Fault}
 use Rattle.hs_forms.specs.declared.fault.Fault.TheVariants as f
 use Rattle.hs_forms.proofs.FormLemmas.{begins_within, begins_same, begins_append, same_start_append, uncons}
-use Rattle.hs_forms.proofs.LimitLemmas.{within_less, within_raised, within_lowered, within_max, within_zero, and_left}
-use Rattle.hs_forms.proofs.LimitLemmas.{and_right, or_left, or_right, deep_more}
-use Rattle.hs_forms.proofs.StateLemmas.{State, state_first, state_step, fails_after}
+use Rattle.hs_forms.proofs.LimitLemmas.{within_less, within_raised, within_max, within_zero}
+use Rattle.hs_forms.proofs.StateLemmas.{State, state_first, state_step}
 use Rattle.hs_forms.proofs.ChainLemmas.{chain_first, chain_step, quiet_inner, quiet_head}
 use Rattle.hs_tokens.specs.Terminals.{minus, is_minus}
-use Rattle.hs_tokens.specs.declared.terminal.Terminal.{Terminal}
 use Rattle.hs_tokens.specs.declared.terminal.Terminal.TheVariants as t
 use Rattle.hs_trees.specs.Patterns.{Ts}
 use Rattle.hs_modules.specs.Words.{qop_tokens}
 use Rattle.hs_modules.specs.ExpressionExtents.{sign}
 use Rattle.hs_modules.specs.Tokens.{sign_tokens, spelling_infix, spelling_operand}
-use Rattle.hs_modules.specs.Formed.{facts_of_operand, facts_of_infix}
+use Rattle.hs_modules.specs.Formed.{facts_of_infix}
 use Rattle.hs_modules.specs.declared.names.QOpTree.{QOpTree}
 use Rattle.hs_modules.specs.declared.names.QOpTree.TheVariants as q_of
 use Rattle.hs_modules.specs.declared.expressions.OperandTree.{OperandTree}
-use Rattle.hs_modules.specs.declared.expressions.InfixTree.{InfixTree, out-InfixTree, out-roll-InfixTree}
-use Rattle.hs_modules.specs.declared.expressions.OpOperand.{OpOperand, out-OpOperand, out-roll-OpOperand}
-use Rattle.hs_modules.specs.declared.expressions.SignedOperand.{SignedOperand, out-SignedOperand}
+use Rattle.hs_modules.specs.declared.expressions.InfixTree.{InfixTree, out-InfixTree}
+use Rattle.hs_modules.specs.declared.expressions.SignedOperand.{SignedOperand}
 use Rattle.hs_modules.specs.declared.expressions.SignedOperand.{out-roll-SignedOperand}
-use Rattle.hs_expression_forms.specs.Trees.{Trees, within, Took, Failed}
-use Rattle.hs_expression_forms.specs.Expressions.{is_operand, depth_of_operand, starts_operand, starts_exp, starts_qop}
-use Rattle.hs_expression_forms.specs.Expressions.{starts_aexp, is_infix, depth_of_infix, operands, qops}
+use Rattle.hs_expression_forms.specs.Trees.{within, Took}
+use Rattle.hs_expression_forms.specs.Expressions.{is_operand, depth_of_operand, starts_operand}
+use Rattle.hs_expression_forms.specs.Expressions.{depth_of_infix, operands}
 use Rattle.hs_expression_forms.specs.Links.{Maybe, maybe_tokens, maybe_open, maybe_deep, maybe_goes_on, maybes, Piece}
-use Rattle.hs_expression_forms.specs.Links.{piece_tokens, piece_deep, last_maybe, pieces_form, pieces_formed, Placed, first_pieces}
-use Rattle.hs_expression_forms.specs.Links.{Links, links_head, links_pieces, links, link_of, sign_of, head_of, head_piece}
+use Rattle.hs_expression_forms.specs.Links.{piece_tokens, piece_deep, last_maybe, pieces_form, pieces_formed}
+use Rattle.hs_expression_forms.specs.Links.{Links, links_head, links_pieces, links, link_of, sign_of, head_of}
 use Rattle.hs_expression_forms.specs.Links.{pieces_of_link, tail_pieces}
-use Rattle.hs_expression_forms.proofs.PieceLemmas.{pieces_chain, piece_item, piece_starts, pieces_more, last_more}
-use Rattle.hs_expression_forms.proofs.PieceLemmas.{qop_operand, qop_starts}
+use Rattle.hs_expression_forms.proofs.PieceLemmas.{pieces_chain, piece_item, last_more}
 use Rattle.hs_expression_forms.proofs.LinkLayerLemmas.{links_good, links_quiet, links_spelled, infix_deep, infix_formed}
-use Rattle.hs_expression_forms.proofs.LinkLayerLemmas.{infix_last, infix_good, negated_of, operand_of}
-use Rattle.hs_expression_forms.proofs.LinkLemmas.{LinkState, Meeting, Next, ends, alone, plain, signed, meet, make_infix}
-use Rattle.hs_expression_forms.proofs.LinkLemmas.{make_signed, make_link, links_same}
-use Rattle.hs_expression_forms.proofs.LinkStepLemmas.{Behind, lone_at, plain_at, signed_at, behind, infix_takes_qop}
-use Rattle.hs_expression_forms.proofs.LinkStepLemmas.{begins_none}
+use Rattle.hs_expression_forms.proofs.LinkLayerLemmas.{infix_last, negated_of, operand_of}
+use Rattle.hs_expression_forms.proofs.LinkLemmas.{LinkState, make_infix}
+use Rattle.hs_expression_forms.proofs.LinkLemmas.{make_signed, make_link}
 use Rattle.hs_expression_forms.proofs.OperandLemmas.{operand_starts}
 use Rattle.hs_expression_forms.proofs.QOpLemmas.{qop_unique, qop_long}
 use Rattle.hs_expression_forms.proofs.LinkReturnLemmas.{chain_pieces, add, add_pieces, add_head, made_pieces, made_head}
-use Rattle.hs_expression_forms.proofs.LinkReturnLemmas.{SignedTook, SignedRejects, over, part, SignedFails, minus_qop}
-use Rattle.hs_expression_forms.proofs.LinkReturnLemmas.{minus_operand, no_lone, alone_quiet, operand_not_minus}
-use Rattle.hs_expression_forms.proofs.LinkReturnLemmas.{operand_exp, split_is, depth_is, none_good, add_good}
-use Rattle.hs_expression_forms.proofs.LinkReturnLemmas.{front_is}
-use Rattle.hs_modules.specs.declared.expressions.OperandTree.TheVariants as d
-use Rattle.hs_modules.specs.declared.expressions.AExpTree.TheVariants as a
-use Rattle.hs_trees.specs.declared.patterns.GConTree.TheVariants as g
-use Rattle.hs_expression_forms.proofs.AExpLayerLemmas.{con_is, con_deep}
-use Rattle.hs_expression_forms.proofs.OperandLayerLemmas.{apply_facts, apply_deep}
-use Rattle.hs_expression_forms.specs.Expressions.{depth_of_aexp, is_aexp}
-use Rattle.hs_modules.specs.Formed.{good_of}
+use Rattle.hs_expression_forms.proofs.LinkReturnLemmas.{SignedTook, over, part, SignedFails}
+use Rattle.hs_expression_forms.proofs.LinkReturnLemmas.{operand_not_minus}
+use Rattle.hs_expression_forms.proofs.LinkReturnLemmas.{add_good}
 use Rattle.hs_expression_forms.proofs.LinkAnswerLemmas.{least_operand, least_operand_good}
-use Rattle.hs_modules.specs.declared.expressions.InfixTree.{roll-out-InfixTree}
 use Rattle.hs_modules.specs.declared.expressions.SignedOperand.{roll-out-SignedOperand}
 
 maybe_reads : (limit : Option ℕ) (e : OperandTree) (rest : Ts) → Reads (within operands limit) e rest →
@@ -77,7 +61,8 @@ maybe_reads limit e rest r = record {
     choose s None after same good quiet q =
         absurd (true≢false (sym (begins_append starts_operand (spelling_operand e) s (operand_starts e))
         ∙ ap (begins starts_operand) q ∙ quiet))
-    choose s (Some x) after same good quiet q = let found = r.only s x after same good quiet q in (ap Some found.0, found.1)
+    choose s (Some x) after same good quiet q = let found = r.only s x after same good quiet q in
+        (ap Some found.0, found.1)
 
 -- no operand before a sign
 none_reads : (limit : Option ℕ) (ts : Ts) → begins is_minus ts ≡ true → Reads (within maybes limit) None ts
@@ -112,7 +97,8 @@ lowered_none (Some m) = let e : m - 0 ≡ m = omega arith in ap Some e
 
 module _ (limit : Option ℕ) (ts : Ts) (x : InfixTree) (here : Ts) (deep ops : ℕ)
     (st : LinkState limit ts x here deep ops) where
-  last_shut : (facts_of_infix x).is_open ≡ false → maybe_open (last_maybe (links_head (x, None)) (chain_pieces x)) ≡ false
+  last_shut : (facts_of_infix x).is_open ≡ false → maybe_open (last_maybe (links_head (x, None))
+      (chain_pieces x)) ≡ false
   last_shut shut = let last = infix_last x in ap maybe_open last.1 ∙ last.2 ∙ shut
 
   -- the state of the pieces behind one more operand
@@ -175,7 +161,8 @@ module _ (limit : Option ℕ) (ts : Ts) (x : InfixTree) (here : Ts) (deep ops : 
       let b = negated_of s in
       let e = operand_of s in
       let same : make_signed b e ≡ s = roll-out-SignedOperand s in
-      subst (λ s'. LinkState limit ts (make_infix (out-InfixTree x).first ((out-InfixTree x).rest ++ make_link op s' ∷ []))
+      subst (λ s'. LinkState limit ts (make_infix (out-InfixTree x).first
+      ((out-InfixTree x).rest ++ make_link op s' ∷ []))
       rest' (max deep m) ((ops + 1) + sign b)) same
       (record {
         state = subst (λ h. State (pieces_chain limit) ts h (chain_pieces (add x op b e)) rest' (max deep m))
@@ -198,7 +185,8 @@ module _ (limit : Option ℕ) (ts : Ts) (x : InfixTree) (here : Ts) (deep ops : 
 
 -- the first operand
 first_chain : (limit : Option ℕ) (ts : Ts) (b : Bool) (e : OperandTree) (next rest : Ts) (m : ℕ) →
-    ts ≡ sign_tokens b ++ next → Took operands (lowered limit (0 + sign b)) next e rest m → Within limit (0 + (0 + sign b)) →
+    ts ≡ sign_tokens b ++ next → Took operands (lowered limit (0 + sign b)) next e rest m →
+    Within limit (0 + (0 + sign b)) →
     State (pieces_chain limit) ts (head_of b e) (sign_of b e) rest m
 first_chain limit ts false e next rest m at took room =
     let took' = subst (λ l. Took operands l next e rest m) (lowered_none limit) took in
@@ -212,25 +200,30 @@ first_chain limit ts false e next rest m at took room =
 first_chain limit ts true e next rest m at took room =
     let c = pieces_chain limit in
     let head : Reads c.head None ts = none_reads limit ts (ap (begins is_minus) at) in
-    let so = chain_first c.form c.head c.items c.item c.inner c.starter c.make c.laws None ts head (c.first None head.good) in
+    let so = chain_first c.form c.head c.items c.item c.inner c.starter c.make c.laws None ts head
+    (c.first None head.good) in
     let item = piece_reads limit 0 (q_of.Sym minus) (Some e) rest (maybe_reads (lowered limit 1) e rest took.reads) in
     record {
-      so = chain_step c.form c.head c.items c.item c.inner c.starter c.make c.laws None [] (q_of.Sym minus, Some e) ts rest so
-          (at ∙ ap (λ l. t.VarSym minus ∷ l) took.spelled) item (c.more None [] (q_of.Sym minus, Some e) so.good refl item.good);
+      so = chain_step c.form c.head c.items c.item c.inner c.starter c.make c.laws None []
+          (q_of.Sym minus, Some e) ts rest so
+          (at ∙ ap (λ l. t.VarSym minus ∷ l) took.spelled) item (c.more None []
+          (q_of.Sym minus, Some e) so.good refl item.good);
       split = at ∙ ap (λ l. t.VarSym minus ∷ l) took.spelled
           ∙ ap (λ l. (t.VarSym minus ∷ l) ++ rest) (sym (append-nil (spelling_operand e)));
       deep_is = omega (arith, took.measured_is);
       room = omega (arith, took.room, ap length at);
     }
 
-pub first_state : (limit : Option ℕ) (ts : Ts) (s : SignedOperand) (rest : Ts) (m : ℕ) → SignedTook limit 0 0 ts s rest m →
+pub first_state : (limit : Option ℕ) (ts : Ts) (s : SignedOperand) (rest : Ts) (m : ℕ) →
+    SignedTook limit 0 0 ts s rest m →
     LinkState limit ts (make_infix s []) rest m (0 + sign (negated_of s))
 first_state limit ts s rest m k =
     let b = negated_of s in
     let e = operand_of s in
     let st = first_chain limit ts b e k.next rest m k.at k.took k.room in
     let pieces : chain_pieces (make_infix s []) ≡ sign_of b e = made_pieces s [] ∙ append-nil (sign_of b e) in
-    let state = subst (λ h. State (pieces_chain limit) ts h (chain_pieces (make_infix s [])) rest m) (sym (made_head s []))
+    let state = subst (λ h. State (pieces_chain limit) ts h (chain_pieces (make_infix s [])) rest m) (sym
+    (made_head s []))
     (subst (λ l. State (pieces_chain limit) ts (head_of b e) l rest m) (sym pieces) st) in
     record {
       state = state;
@@ -258,11 +251,14 @@ first_is lone limit other s after good quiet e =
     let x = operand_of o.first in
     let pieces : links_pieces other ≡ sign_of b x ++ more =
     append_assoc (sign_of b x) (flat_map pieces_of_link o.rest) (tail_pieces other.1) in
-    by b x more pieces refl (subst (λ l. (pieces_form limit).Good (links_head other, l)) pieces (links_good limit lone other good))
+    by b x more pieces refl (subst (λ l. (pieces_form limit).Good (links_head other, l)) pieces
+    (links_good limit lone other good))
     (subst (λ l. begins ((pieces_form limit).extends (links_head other, l)) after ≡ false) pieces
-    (begins_within ((links lone).extends other) ((pieces_form limit).extends (links_head other, links_pieces other)) after
+    (begins_within ((links lone).extends other) ((pieces_form limit).extends
+    (links_head other, links_pieces other)) after
     (links_quiet lone limit other) quiet))
-    (e ∙ ap (λ l. l ++ after) (sym (links_spelled other) ∙ ap (λ l. maybe_tokens (links_head other) ++ flat_map piece_tokens l) pieces))
+    (e ∙ ap (λ l. l ++ after) (sym (links_spelled other) ∙ ap (λ l. maybe_tokens
+    (links_head other) ++ flat_map piece_tokens l) pieces))
     (omega (arith, infix_deep other.0, length-append (sign_of b x) (flat_map pieces_of_link o.rest), sign_long b x))
   where
     sign_long : (b : Bool) (e : OperandTree) → length (sign_of b e) ≡ sign b
@@ -317,13 +313,16 @@ signed_good lone limit b e room good =
     ∙ ap (λ o. sign_of o.negated o.operand) (out-roll-SignedOperand (record { negated = b; operand = e })) in
     let head : links_head (x, None) ≡ head_of b e = made_head s []
     ∙ ap (λ o. head_of o.negated o.operand) (out-roll-SignedOperand (record { negated = b; operand = e })) in (
-      infix_formed x ∙ ap (λ h. pieces_formed h (chain_pieces x)) head ∙ ap (pieces_formed (head_of b e)) pieces ∙ formed b good,
-      subst (Within limit) (sym (infix_deep x ∙ ap (λ h. max (maybe_deep h) (deepest (map piece_deep (chain_pieces x))) + length (chain_pieces x)) head
+      infix_formed x ∙ ap (λ h. pieces_formed h (chain_pieces x)) head ∙ ap (pieces_formed (head_of b e)) pieces
+          ∙ formed b good,
+      subst (Within limit) (sym (infix_deep x ∙ ap (λ h. max (maybe_deep h) (deepest (map piece_deep
+          (chain_pieces x))) + length (chain_pieces x)) head
           ∙ ap (λ l. max (maybe_deep (head_of b e)) (deepest (map piece_deep l)) + length l) pieces ∙ deeper b))
           (within_raised limit (depth_of_operand e) (0 + sign b) (within_less limit _ _ (omega arith) room) good.1),
     )
   where
-    formed : (b : Bool) → (within operands (lowered limit (0 + sign b))).Good e → pieces_formed (head_of b e) (sign_of b e) ≡ true
+    formed : (b : Bool) → (within operands (lowered limit (0 + sign b))).Good e →
+        pieces_formed (head_of b e) (sign_of b e) ≡ true
     formed true good = and_from _ _ (and_from (is_operand e) true good.0 refl) refl
     formed false good = and_from _ _ (and_from (is_operand e) true good.0 refl) refl
 
@@ -345,15 +344,21 @@ signed_spelled b e =
     ∙ ap (λ h. maybe_tokens h ++ flat_map piece_tokens (links_pieces (x, None))) head
     ∙ ap (λ l. maybe_tokens (head_of b e) ++ flat_map piece_tokens l) (append-nil (chain_pieces x) ∙ pieces) ∙ one b
   where
-    one : (b : Bool) → maybe_tokens (head_of b e) ++ flat_map piece_tokens (sign_of b e) ≡ sign_tokens b ++ spelling_operand e
+    one : (b : Bool) → maybe_tokens (head_of b e) ++ flat_map piece_tokens
+        (sign_of b e) ≡ sign_tokens b ++ spelling_operand e
     one true = ap (λ l. t.VarSym minus ∷ l) (append-nil (spelling_operand e))
     one false = append-nil (spelling_operand e)
 
 abbrev pub least_infix : InfixTree
 least_infix = make_infix (make_signed false least_operand) []
 
-pub least_links_good : (lone : Bool) (limit : Option ℕ) → (within (links lone) limit).Good (make_infix (make_signed false least_operand) [], None)
-least_links_good lone limit = signed_good lone limit false least_operand (within_zero limit) (least_operand_good (lowered limit 0))
+pub least_links_good : (lone : Bool) (limit : Option ℕ) → (within (links lone) limit).Good (
+  make_infix
+      (make_signed false least_operand) [],
+  None,
+)
+least_links_good lone limit = signed_good lone limit false least_operand (within_zero limit) (least_operand_good
+    (lowered limit 0))
 
 -- no first operand
 pub first_fails : (lone : Bool) (limit : Option ℕ) (ts : Ts) (e : Fault) → SignedFails limit 0 0 ts e →
@@ -378,7 +383,8 @@ first_fails lone limit ts (f.At left) (over is full) =
     go s same true x tail is w =
         full (subst (λ c. Within limit (0 + (0 + sign c)))
         (sym (sym (begins_same is_minus ts s same) ∙ ap (begins is_minus) is)) (within_less limit _ _ (omega arith) w))
-    go s same false x tail is w = full (subst (λ c. Within limit (0 + (0 + sign c))) (sym (none (begins is_minus ts) refl))
+    go s same false x tail is w = full (subst (λ c. Within limit (0 + (0 + sign c))) (sym (none
+        (begins is_minus ts) refl))
         (within_less limit _ _ (omega arith) w))
       where
         none : (c : Bool) → begins is_minus ts ≡ c → begins is_minus ts ≡ false
@@ -404,7 +410,8 @@ first_fails lone limit ts (f.At left) (part next split room r) = parts (begins i
         );
         never = λ s other after same good quiet e.
             let s' = sign_tokens b ++ (r.before ++ s) in
-            let found = first_is lone limit other s' after good quiet (sym (append_assoc (sign_tokens b) r.before s) ∙ e) in
+            let found = first_is lone limit other s' after good quiet (sym (append_assoc
+            (sign_tokens b) r.before s) ∙ e) in
             let same' : SameStart ts s' =
             subst (λ l. SameStart l s') (sym (split ∙ ap (λ l. sign_tokens b ++ l) r.split))
             (same_start_append (sign_tokens b) (r.before ++ r.bad) (r.before ++ s)

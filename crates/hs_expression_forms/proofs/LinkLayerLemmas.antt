@@ -1,39 +1,34 @@
 -- A chain of operators and its pieces.
-use Rattle.std.proofs.Common.{◌≡◌, ℕ, zero, suc, ◌+◌, ◌≤◌, Bool, true, false, List, [], ◌∷◌, ◌++◌, length, refl, sym}
-use Rattle.std.proofs.Common.{ap, ◌∙◌, subst, true≢false, arith, length-append, append_assoc}
-use Rattle.std.specs.Prelude.{map, max, sum, not, flat_map, ◌&&◌, ◌||◌, Option, Some, None}
-use Rattle.std.proofs.lemmas.Bool.{and_from}
+use Rattle.std.proofs.Common.{◌≡◌, ℕ, ◌+◌, Bool, true, false, List, [], ◌∷◌, ◌++◌, length, refl, sym}
+use Rattle.std.proofs.Common.{ap, ◌∙◌, subst, arith, append_assoc}
+use Rattle.std.specs.Prelude.{map, max, sum, not, flat_map, ◌&&◌, Option, Some, None}
 use Rattle.std.proofs.lemmas.List.{append-nil}
 use Rattle.std.proofs.lemmas.List.Folds.{flat_map-map}
 use Rattle.std.specs.List.{fold}
 use Rattle.std.proofs.lemmas.Grind.{flat_map-append}
-use Rattle.hs_forms.specs.Reading.{begins}
 use Rattle.hs_forms.specs.Limits.{Within, lowered, deepest, all_of}
 use Rattle.hs_forms.proofs.LimitLemmas.{within_less, within_lowered, and_left, and_right, or_left, or_right}
 use Rattle.hs_tokens.specs.declared.terminal.Terminal.{Terminal}
-use Rattle.hs_tokens.specs.declared.terminal.Terminal.TheVariants as t
-use Rattle.hs_trees.specs.Patterns.{Ts}
 use Rattle.hs_modules.specs.Extents.{Extent, depth_of}
 use Rattle.hs_modules.specs.ExpressionExtents.{extent_algebra, sign, extent_of_operand}
 use Rattle.hs_modules.specs.Words.{qop_tokens}
 use Rattle.hs_modules.specs.Folds.{folded_link, folded_signed}
-use Rattle.hs_modules.specs.Tokens.{token_algebra, joined, sign_tokens, spelling_infix, spelling_link, spelling_signed}
+use Rattle.hs_modules.specs.Tokens.{token_algebra, sign_tokens, spelling_infix, spelling_link, spelling_signed}
 use Rattle.hs_modules.specs.Tokens.{spelling_operand}
 use Rattle.hs_modules.specs.Formed.{Facts, fact_algebra, good_of, closed_front, last_of, facts_of_infix, facts_of_link}
 use Rattle.hs_modules.specs.Formed.{facts_of_signed, facts_of_operand}
 use Rattle.hs_modules.specs.declared.names.QOpTree.{QOpTree}
-use Rattle.hs_modules.specs.declared.names.QOpTree.TheVariants as q
 use Rattle.hs_modules.specs.declared.expressions.OperandTree.{OperandTree}
-use Rattle.hs_modules.specs.declared.expressions.InfixTree.{InfixTree, out-InfixTree, roll-InfixTree, roll-out-InfixTree}
-use Rattle.hs_modules.specs.declared.expressions.OpOperand.{OpOperand, out-OpOperand, roll-OpOperand}
+use Rattle.hs_modules.specs.declared.expressions.InfixTree.{InfixTree, out-InfixTree, roll-out-InfixTree}
+use Rattle.hs_modules.specs.declared.expressions.OpOperand.{OpOperand, out-OpOperand}
 use Rattle.hs_modules.specs.declared.expressions.OpOperand.{roll-out-OpOperand}
-use Rattle.hs_modules.specs.declared.expressions.SignedOperand.{SignedOperand, out-SignedOperand, roll-SignedOperand}
+use Rattle.hs_modules.specs.declared.expressions.SignedOperand.{SignedOperand, out-SignedOperand}
 use Rattle.hs_modules.specs.declared.expressions.SignedOperand.{roll-out-SignedOperand}
 use Rattle.hs_modules.proofs.FoldingLemmas.{infix_folded, link_folded, signed_folded}
-use Rattle.hs_expression_forms.specs.Trees.{Trees, within}
-use Rattle.hs_expression_forms.specs.Expressions.{is_operand, depth_of_operand, operand_goes_on, infix_goes_on, goes_on}
+use Rattle.hs_expression_forms.specs.Trees.{within}
+use Rattle.hs_expression_forms.specs.Expressions.{is_operand, depth_of_operand, goes_on}
 use Rattle.hs_expression_forms.specs.Expressions.{starts_operand, starts_qop, starts_aexp, is_infix, depth_of_infix}
-use Rattle.hs_expression_forms.specs.Links.{Maybe, maybe_tokens, maybe_formed, maybe_open, maybe_deep, maybe_goes_on}
+use Rattle.hs_expression_forms.specs.Links.{Maybe, maybe_tokens, maybe_open, maybe_deep, maybe_goes_on}
 use Rattle.hs_expression_forms.specs.Links.{Piece, piece_tokens, piece_formed, piece_deep, piece_open, shut_front}
 use Rattle.hs_expression_forms.specs.Links.{last_maybe, pieces_formed, Placed, pieces_form, head_of, sign_of, link_of}
 use Rattle.hs_expression_forms.specs.Links.{pieces_of_link, head_piece, first_pieces, tail_pieces, Links, links_head}
@@ -50,7 +45,8 @@ operand_of s = (out-SignedOperand s).operand
 pub signed_spelled : (s : SignedOperand) →
     spelling_signed s ≡ sign_tokens (negated_of s) ++ spelling_operand (operand_of s)
 unfolding token_algebra
-signed_spelled s = ap spelling_signed (sym (roll-out-SignedOperand s)) ∙ signed_folded token_algebra (out-SignedOperand s)
+signed_spelled s = ap spelling_signed (sym (roll-out-SignedOperand s)) ∙ signed_folded token_algebra
+    (out-SignedOperand s)
 
 link_spelled : (x : OpOperand) →
     spelling_link x ≡ qop_tokens (out-OpOperand x).op ++ spelling_signed (out-OpOperand x).operand
@@ -62,7 +58,8 @@ pub infix_spelled : (x : InfixTree) →
 unfolding token_algebra
 infix_spelled x =
     ap spelling_infix (sym (roll-out-InfixTree x)) ∙ infix_folded token_algebra (out-InfixTree x)
-    ∙ ap (λ ts. spelling_signed (out-InfixTree x).first ++ ts) (flat_map-map (λ y. y) spelling_link (out-InfixTree x).rest)
+    ∙ ap (λ ts. spelling_signed (out-InfixTree x).first ++ ts) (flat_map-map (λ y. y) spelling_link
+    (out-InfixTree x).rest)
 
 pub signed_facts : (s : SignedOperand) → facts_of_signed s ≡ facts_of_operand (operand_of s)
 unfolding fact_algebra
@@ -78,7 +75,8 @@ abbrev pub last_fact : InfixTree → Facts
 last_fact x = last_of (facts_of_signed (out-InfixTree x).first) (map facts_of_link (out-InfixTree x).rest)
 
 pub infix_facts : (x : InfixTree) → facts_of_infix x ≡ record {
-  good = ((facts_of_signed (out-InfixTree x).first).good && all_of (map good_of (map facts_of_link (out-InfixTree x).rest)))
+  good = ((facts_of_signed (out-InfixTree x).first).good && all_of (map good_of (map facts_of_link
+      (out-InfixTree x).rest)))
       && closed_front (facts_of_signed (out-InfixTree x).first) (map facts_of_link (out-InfixTree x).rest);
   is_open = (last_fact x).is_open;
   ends_in_type = (last_fact x).ends_in_type;
@@ -90,7 +88,8 @@ signed_extent : (s : SignedOperand) →
     folded_signed extent_algebra s ≡ (sign (negated_of s), extent_of_operand (operand_of s))
 unfolding extent_algebra
 signed_extent s =
-    ap (folded_signed extent_algebra) (sym (roll-out-SignedOperand s)) ∙ signed_folded extent_algebra (out-SignedOperand s)
+    ap (folded_signed extent_algebra) (sym (roll-out-SignedOperand s)) ∙ signed_folded extent_algebra
+    (out-SignedOperand s)
 
 link_extent : (x : OpOperand) → folded_link extent_algebra x
     ≡ (1 + sign (negated_of (out-OpOperand x).operand), extent_of_operand (operand_of (out-OpOperand x).operand))
@@ -105,10 +104,12 @@ link_pairs xs = map (folded_link extent_algebra) xs
 infix_extent : (x : InfixTree) → depth_of_infix x
     ≡ max (folded_signed extent_algebra (out-InfixTree x).first).1.depth
     (deepest (map depth_of (map (λ o. o.1) (link_pairs (out-InfixTree x).rest))))
-    + ((folded_signed extent_algebra (out-InfixTree x).first).0 + sum (map (λ o. o.0) (link_pairs (out-InfixTree x).rest)))
+    + ((folded_signed extent_algebra (out-InfixTree x).first).0 + sum (map (λ o. o.0) (link_pairs
+    (out-InfixTree x).rest)))
 unfolding extent_algebra
 infix_extent x =
-    ap (λ y. depth_of_infix y) (sym (roll-out-InfixTree x)) ∙ ap depth_of (infix_folded extent_algebra (out-InfixTree x))
+    ap (λ y. depth_of_infix y) (sym (roll-out-InfixTree x)) ∙ ap depth_of (infix_folded extent_algebra
+    (out-InfixTree x))
 
 -- tokens
 link_of_spelled : (op : QOpTree) (b : Bool) (e : OperandTree) →
@@ -243,7 +244,8 @@ front_pieces f [] = refl
 front_pieces f (x ∷ xs) =
     let o = out-OpOperand x in
     ap (λ b. not f.is_open && b) (front_pieces (facts_of_link x) xs)
-    ∙ ap (λ (g : Facts). not f.is_open && shut_front g.is_open (map piece_open (flat_map pieces_of_link xs))) (link_facts x)
+    ∙ ap (λ (g : Facts). not f.is_open && shut_front g.is_open (map piece_open (flat_map pieces_of_link xs)))
+    (link_facts x)
     ∙ sym (link_of_front f.is_open o.op (negated_of o.operand) (operand_of o.operand) (flat_map pieces_of_link xs))
 
 first_formed : (b : Bool) (e : OperandTree) (ps : List Piece) → pieces_formed (head_of b e) (sign_of b e ++ ps)
@@ -256,7 +258,8 @@ pub infix_formed : (x : InfixTree) → is_infix x
 infix_formed x =
     let o = out-InfixTree x in
     ap good_of (infix_facts x)
-    ∙ ap (λ b. ((facts_of_signed o.first).good && b) && closed_front (facts_of_signed o.first) (map facts_of_link o.rest))
+    ∙ ap (λ b. ((facts_of_signed o.first).good && b) && closed_front (facts_of_signed o.first)
+    (map facts_of_link o.rest))
     (all_pieces o.rest)
     ∙ ap (λ b. ((facts_of_signed o.first).good && all_of (map piece_formed (flat_map pieces_of_link o.rest))) && b)
     (front_pieces (facts_of_signed o.first) o.rest)

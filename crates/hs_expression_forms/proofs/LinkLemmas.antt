@@ -1,47 +1,33 @@
 -- How a chain of operators is read, with and without the operator of a section behind it.
-use Rattle.std.proofs.Common.{◌≡◌, ℕ, zero, suc, ◌+◌, ◌<◌, ◌≤◌, Bool, true, false, List, [], ◌∷◌, ◌++◌, length, refl}
-use Rattle.std.proofs.Common.{sym, ap, ◌∙◌, subst, true≢false, arith, length-append, append_assoc}
-use Rattle.std.specs.Prelude.{map, max, not, flat_map, ◌&&◌, ◌||◌, Option, Some, None}
-use Rattle.std.proofs.lemmas.Bool.{and_from}
-use Rattle.std.proofs.lemmas.List.{append-nil, append_cancel_left}
-use Rattle.std.proofs.lemmas.Grind.{flat_map-append}
-use Rattle.hs_forms.specs.Reading.{Form, SameStart, begins, Reads, Refuses}
-use Rattle.hs_forms.specs.Limits.{Within, lowered, deepest, all_of}
-use Rattle.hs_forms.specs.Answers.{Accepts, Rejects, Fails}
-use Rattle.hs_forms.specs.declared.fault.Fault.{Fault}
-use Rattle.hs_forms.specs.declared.fault.Fault.TheVariants as f
-use Rattle.hs_forms.proofs.FormLemmas.{begins_within, begins_same, begins_append, same_start_append}
-use Rattle.hs_forms.proofs.LimitLemmas.{within_less, within_raised, within_max, and_left, and_right, deep_front, deep_more}
-use Rattle.hs_forms.proofs.LimitLemmas.{or_left, or_right}
-use Rattle.hs_forms.proofs.StateLemmas.{State, state_first, state_step}
-use Rattle.hs_forms.proofs.ChainLemmas.{quiet_inner}
-use Rattle.hs_tokens.specs.Terminals.{minus, is_minus}
-use Rattle.hs_tokens.specs.declared.terminal.Terminal.{Terminal}
-use Rattle.hs_tokens.specs.declared.terminal.Terminal.TheVariants as t
+use Rattle.std.proofs.Common.{◌≡◌, ℕ, ◌+◌, ◌≤◌, Bool, true, false, List, [], ◌∷◌, ◌++◌, length, refl}
+use Rattle.std.proofs.Common.{sym, ap, ◌∙◌, arith, length-append, append_assoc}
+use Rattle.std.specs.Prelude.{map, flat_map, Option, Some, None}
+use Rattle.std.proofs.lemmas.List.{append-nil}
+use Rattle.hs_forms.specs.Reading.{SameStart, begins}
+use Rattle.hs_forms.specs.Limits.{Within, deepest}
+use Rattle.hs_forms.proofs.FormLemmas.{begins_within}
+use Rattle.hs_forms.proofs.LimitLemmas.{deep_front, deep_more}
+use Rattle.hs_forms.proofs.StateLemmas.{State}
+use Rattle.hs_tokens.specs.Terminals.{minus}
 use Rattle.hs_trees.specs.Patterns.{Ts}
-use Rattle.hs_modules.specs.Words.{qop_tokens}
-use Rattle.hs_modules.specs.ExpressionExtents.{sign}
-use Rattle.hs_modules.specs.Tokens.{sign_tokens, spelling_infix, spelling_operand}
-use Rattle.hs_modules.specs.Formed.{facts_of_operand, facts_of_infix}
+use Rattle.hs_modules.specs.Tokens.{spelling_infix}
 use Rattle.hs_modules.specs.declared.names.QOpTree.{QOpTree}
 use Rattle.hs_modules.specs.declared.names.QOpTree.TheVariants as q
 use Rattle.hs_modules.specs.declared.expressions.OperandTree.{OperandTree}
 use Rattle.hs_modules.specs.declared.expressions.InfixTree.{InfixTree, out-InfixTree, roll-InfixTree, roll-out-InfixTree}
 use Rattle.hs_modules.specs.declared.expressions.OpOperand.{OpOperand, out-OpOperand, roll-OpOperand}
 use Rattle.hs_modules.specs.declared.expressions.OpOperand.{roll-out-OpOperand}
-use Rattle.hs_modules.specs.declared.expressions.SignedOperand.{SignedOperand, out-SignedOperand, roll-SignedOperand}
+use Rattle.hs_modules.specs.declared.expressions.SignedOperand.{SignedOperand, roll-SignedOperand}
 use Rattle.hs_modules.specs.declared.expressions.SignedOperand.{roll-out-SignedOperand}
-use Rattle.hs_expression_forms.specs.Trees.{Trees, within, Took, Failed}
-use Rattle.hs_expression_forms.specs.Expressions.{is_operand, depth_of_operand, starts_operand, starts_exp, starts_qop}
-use Rattle.hs_expression_forms.specs.Expressions.{is_infix, depth_of_infix, operands}
-use Rattle.hs_expression_forms.specs.Links.{Maybe, maybe_tokens, maybe_open, maybe_deep, maybe_goes_on, maybes, Piece}
-use Rattle.hs_expression_forms.specs.Links.{piece_tokens, piece_deep, last_maybe, pieces_form, head_of, sign_of, link_of}
+use Rattle.hs_expression_forms.specs.Trees.{within}
+use Rattle.hs_expression_forms.specs.Expressions.{is_infix, depth_of_infix}
+use Rattle.hs_expression_forms.specs.Links.{Maybe, maybe_tokens, maybe_deep, Piece}
+use Rattle.hs_expression_forms.specs.Links.{piece_tokens, piece_deep, pieces_form, head_of, sign_of, link_of}
 use Rattle.hs_expression_forms.specs.Links.{pieces_of_link, head_piece, first_pieces, tail_pieces, Links, links_head}
 use Rattle.hs_expression_forms.specs.Links.{links_pieces, links}
-use Rattle.hs_expression_forms.proofs.PieceLemmas.{pieces_chain, piece_starts, qop_operand, qop_starts}
+use Rattle.hs_expression_forms.proofs.PieceLemmas.{pieces_chain}
 use Rattle.hs_expression_forms.proofs.LinkLayerLemmas.{negated_of, operand_of, links_spelled, links_good, links_quiet}
-use Rattle.hs_expression_forms.proofs.LinkLayerLemmas.{infix_deep, infix_last, chain_spelled}
-use Rattle.hs_expression_forms.proofs.OperandLemmas.{operand_starts}
+use Rattle.hs_expression_forms.proofs.LinkLayerLemmas.{infix_deep}
 
 abbrev pub make_infix : SignedOperand → List OpOperand → InfixTree
 make_infix s xs = roll-InfixTree (record { first = s; rest = xs })
@@ -61,7 +47,8 @@ unlinks ((op, None) ∷ (m, Some e) ∷ ps) = (make_link op (make_signed true e)
 unlinks ((op, None) ∷ (m, None) ∷ ps) = ([], Some op)
 
 link_is : (x : OpOperand) →
-    make_link (out-OpOperand x).op (make_signed (negated_of (out-OpOperand x).operand) (operand_of (out-OpOperand x).operand)) ≡ x
+    make_link (out-OpOperand x).op (make_signed (negated_of (out-OpOperand x).operand) (operand_of
+    (out-OpOperand x).operand)) ≡ x
 link_is x =
     ap (λ s. make_link (out-OpOperand x).op s) (roll-out-SignedOperand (out-OpOperand x).operand) ∙ roll-out-OpOperand x
 
@@ -104,7 +91,8 @@ unpieces_links : (l : Links) →
 unpieces_links l =
     let o = out-InfixTree l.0 in
     ap (unpieces (head_piece o.first))
-    (append_assoc (sign_of (negated_of o.first) (operand_of o.first)) (flat_map pieces_of_link o.rest) (tail_pieces l.1))
+    (append_assoc (sign_of (negated_of o.first) (operand_of o.first)) (flat_map pieces_of_link o.rest)
+    (tail_pieces l.1))
     ∙ unpieces_first (negated_of o.first) (operand_of o.first) (flat_map pieces_of_link o.rest ++ tail_pieces l.1)
     ∙ ap (λ r. Some (make_signed (negated_of o.first) (operand_of o.first), r)) (unlinks_pieces o.rest l.1)
     ∙ ap (λ s. Some (s, (o.rest, l.1))) (roll-out-SignedOperand o.first)
@@ -178,7 +166,8 @@ strip_first : (s s' : SignedOperand) (xs zs : List OpOperand) (o : Option QOpTre
     (ys : List OpOperand) × (more ≡ flat_map pieces_of_link ys ++ tail_pieces o)
 strip_first s s' xs zs o more h k =
     strip xs zs o more
-    (strip_sign (negated_of s') (negated_of s) (operand_of s') (operand_of s) (flat_map pieces_of_link zs ++ tail_pieces o)
+    (strip_sign (negated_of s') (negated_of s) (operand_of s') (operand_of s)
+    (flat_map pieces_of_link zs ++ tail_pieces o)
     (flat_map pieces_of_link xs ++ more) h
     (sym (append_assoc (sign_of (negated_of s') (operand_of s')) (flat_map pieces_of_link zs) (tail_pieces o)) ∙ k
     ∙ append_assoc (sign_of (negated_of s) (operand_of s)) (flat_map pieces_of_link xs) more))
@@ -187,7 +176,8 @@ strip_first s s' xs zs o more h k =
 pub data Next (l : Links) (more : List Piece) (beyond : ℕ) : Type 0 where
   ends : more ≡ [] → l.1 ≡ None → Next l more beyond
   alone : (op : QOpTree) → more ≡ (op, None) ∷ [] → l.1 ≡ Some op → Next l more beyond
-  plain : (op : QOpTree) (e : OperandTree) (ps : List Piece) → more ≡ (op, Some e) ∷ ps → 1 ≤ beyond → Next l more beyond
+  plain : (op : QOpTree) (e : OperandTree) (ps : List Piece) → more ≡ (op, Some e) ∷ ps → 1 ≤ beyond →
+      Next l more beyond
   signed : (op : QOpTree) (e : OperandTree) (ps : List Piece) → more ≡ (op, None) ∷ (q.Sym minus, Some e) ∷ ps →
       2 ≤ beyond → Next l more beyond
 
@@ -197,12 +187,14 @@ next_link l op true e more ps beyond h le = signed op e ps h le
 next_link l op false e more ps beyond h le = plain op e ps h le
 
 next_of : (l : Links) (ys : List OpOperand) (o : Option QOpTree) (more : List Piece) (beyond : ℕ) → l.1 ≡ o →
-    more ≡ flat_map pieces_of_link ys ++ tail_pieces o → beyond ≡ length (flat_map pieces_of_link ys) → Next l more beyond
+    more ≡ flat_map pieces_of_link ys ++ tail_pieces o → beyond ≡ length (flat_map pieces_of_link ys) →
+    Next l more beyond
 next_of l [] None more beyond is h le = ends h is
 next_of l [] (Some op) more beyond is h le = alone op h is
 next_of l (y ∷ ys) o more beyond is h le =
     let k = out-OpOperand y in
-    next_link l k.op (negated_of k.operand) (operand_of k.operand) more (flat_map pieces_of_link ys ++ tail_pieces o) beyond
+    next_link l k.op (negated_of k.operand) (operand_of k.operand) more
+    (flat_map pieces_of_link ys ++ tail_pieces o) beyond
     (h ∙ append_assoc (pieces_of_link y) (flat_map pieces_of_link ys) (tail_pieces o))
     (omega (arith, le, length-append (pieces_of_link y) (flat_map pieces_of_link ys)))
 
@@ -240,7 +232,8 @@ module _ (lone : Bool) (limit : Option ℕ) where
       let front : maybe_tokens (links_head (x, None)) ++ flat_map piece_tokens ps ≡ spelling_infix x =
       ap (λ l. maybe_tokens (links_head (x, None)) ++ flat_map piece_tokens l) (sym (append-nil ps))
       ∙ links_spelled (x, None) ∙ append-nil (spelling_infix x) in
-      let found = st.state.so.only s (links_head other) (links_pieces other) after same (links_good limit lone other good)
+      let found = st.state.so.only s (links_head other) (links_pieces other) after same
+      (links_good limit lone other good)
       (begins_within ((links lone).extends other) ((pieces_form limit).extends (links_head other, links_pieces other))
       after (links_quiet lone limit other) quiet)
       (ap (λ l. l ++ s) front ∙ e ∙ ap (λ l. l ++ after) (sym (links_spelled other))) in

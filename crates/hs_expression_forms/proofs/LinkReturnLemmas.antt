@@ -1,53 +1,45 @@
 -- What the reader of a chain of operators answers, return by return.
-use Rattle.std.proofs.Common.{◌≡◌, ℕ, zero, suc, ◌+◌, ◌<◌, ◌≤◌, Bool, true, false, List, [], ◌∷◌, ◌++◌, length, refl}
+use Rattle.std.proofs.Common.{◌≡◌, ℕ, ◌+◌, Bool, true, false, List, [], ◌∷◌, ◌++◌, length, refl}
 use Rattle.std.proofs.Common.{sym, ap, ◌∙◌, subst, true≢false, arith, length-append, append_assoc}
-use Rattle.std.specs.Prelude.{map, max, not, flat_map, ◌&&◌, ◌||◌, Option, Some, None}
-use Rattle.std.proofs.lemmas.Bool.{and_from}
-use Rattle.std.proofs.lemmas.List.{append-nil, append_cancel_left}
+use Rattle.std.specs.Prelude.{map, max, flat_map, ◌||◌, Option, Some, None}
+use Rattle.std.proofs.lemmas.List.{append-nil}
 use Rattle.std.proofs.lemmas.Grind.{flat_map-append}
-use Rattle.hs_forms.specs.Reading.{Form, SameStart, begins, Reads, Refuses}
-use Rattle.hs_forms.specs.Limits.{Within, lowered, deepest, all_of}
-use Rattle.hs_forms.specs.Answers.{Accepts, Rejects, Fails}
-use Rattle.hs_forms.specs.Forms.{item_form}
+use Rattle.hs_forms.specs.Reading.{begins}
+use Rattle.hs_forms.specs.Limits.{Within, lowered, deepest}
+use Rattle.hs_forms.specs.Answers.{Rejects}
 use Rattle.hs_forms.specs.declared.fault.Fault.{Fault}
 use Rattle.hs_forms.specs.declared.fault.Fault.TheVariants as f
-use Rattle.hs_forms.proofs.FormLemmas.{begins_within, begins_same, begins_append, same_start_append, uncons}
-use Rattle.hs_forms.proofs.LimitLemmas.{within_less, within_raised, within_lowered, within_max, within_zero, and_left}
-use Rattle.hs_forms.proofs.LimitLemmas.{and_right, or_left, or_right, deep_more}
-use Rattle.hs_forms.proofs.StateLemmas.{State, state_first, state_step, fails_after}
-use Rattle.hs_forms.proofs.ChainLemmas.{chain_first, chain_step, quiet_inner, quiet_head}
+use Rattle.hs_forms.proofs.FormLemmas.{begins_append}
+use Rattle.hs_forms.proofs.LimitLemmas.{within_less, within_raised, within_max}
+use Rattle.hs_forms.proofs.LimitLemmas.{or_left, or_right, deep_more}
 use Rattle.hs_tokens.specs.Terminals.{minus, is_minus}
 use Rattle.hs_tokens.specs.declared.terminal.Terminal.{Terminal}
 use Rattle.hs_tokens.specs.declared.terminal.Terminal.TheVariants as t
 use Rattle.hs_trees.specs.Patterns.{Ts}
-use Rattle.hs_modules.specs.Words.{qop_tokens}
 use Rattle.hs_modules.specs.ExpressionExtents.{sign}
 use Rattle.hs_modules.specs.Tokens.{sign_tokens, spelling_infix, spelling_operand}
-use Rattle.hs_modules.specs.Formed.{facts_of_operand, facts_of_infix}
+use Rattle.hs_modules.specs.Formed.{facts_of_infix}
 use Rattle.hs_modules.specs.declared.names.QOpTree.{QOpTree}
 use Rattle.hs_modules.specs.declared.names.QOpTree.TheVariants as q
 use Rattle.hs_modules.specs.declared.expressions.OperandTree.{OperandTree}
 use Rattle.hs_modules.specs.declared.expressions.InfixTree.{InfixTree, out-InfixTree, out-roll-InfixTree}
-use Rattle.hs_modules.specs.declared.expressions.OpOperand.{OpOperand, out-OpOperand, out-roll-OpOperand}
-use Rattle.hs_modules.specs.declared.expressions.SignedOperand.{SignedOperand, out-SignedOperand}
+use Rattle.hs_modules.specs.declared.expressions.OpOperand.{OpOperand, out-roll-OpOperand}
+use Rattle.hs_modules.specs.declared.expressions.SignedOperand.{SignedOperand}
 use Rattle.hs_modules.specs.declared.expressions.SignedOperand.{out-roll-SignedOperand}
-use Rattle.hs_expression_forms.specs.Trees.{Trees, within, Took, Failed}
-use Rattle.hs_expression_forms.specs.Expressions.{is_operand, depth_of_operand, starts_operand, starts_exp, starts_qop}
-use Rattle.hs_expression_forms.specs.Expressions.{starts_aexp, is_infix, depth_of_infix, operands, qops}
-use Rattle.hs_expression_forms.specs.Links.{Maybe, maybe_tokens, maybe_open, maybe_deep, maybe_goes_on, maybes, Piece}
+use Rattle.hs_expression_forms.specs.Trees.{within, Took}
+use Rattle.hs_expression_forms.specs.Expressions.{depth_of_operand, starts_operand, starts_exp, starts_qop}
+use Rattle.hs_expression_forms.specs.Expressions.{depth_of_infix, operands}
+use Rattle.hs_expression_forms.specs.Links.{maybe_tokens, maybe_open, maybe_deep, Piece}
 use Rattle.hs_expression_forms.specs.Links.{piece_tokens, piece_deep, last_maybe, pieces_form, pieces_formed, Placed, first_pieces}
-use Rattle.hs_expression_forms.specs.Links.{Links, links_head, links_pieces, links, link_of, sign_of, head_of, head_piece}
-use Rattle.hs_expression_forms.specs.Links.{pieces_of_link, tail_pieces}
-use Rattle.hs_expression_forms.proofs.PieceLemmas.{pieces_chain, piece_item, piece_starts, pieces_more, last_more}
-use Rattle.hs_expression_forms.proofs.PieceLemmas.{qop_operand, qop_starts}
-use Rattle.hs_expression_forms.proofs.LinkLayerLemmas.{links_good, links_quiet, links_spelled, infix_deep, infix_formed}
-use Rattle.hs_expression_forms.proofs.LinkLayerLemmas.{infix_last, infix_good, negated_of, operand_of}
-use Rattle.hs_expression_forms.proofs.LinkLemmas.{LinkState, Meeting, Next, ends, alone, plain, signed, meet, make_infix}
-use Rattle.hs_expression_forms.proofs.LinkLemmas.{make_signed, make_link, links_same}
-use Rattle.hs_expression_forms.proofs.LinkStepLemmas.{Behind, lone_at, plain_at, signed_at, behind, infix_takes_qop}
-use Rattle.hs_expression_forms.proofs.LinkStepLemmas.{begins_none}
+use Rattle.hs_expression_forms.specs.Links.{Links, links_head, links, link_of, sign_of, head_piece}
+use Rattle.hs_expression_forms.specs.Links.{pieces_of_link}
+use Rattle.hs_expression_forms.proofs.PieceLemmas.{pieces_more, last_more}
+use Rattle.hs_expression_forms.proofs.PieceLemmas.{qop_operand}
+use Rattle.hs_expression_forms.proofs.LinkLayerLemmas.{links_spelled, infix_deep, infix_formed}
+use Rattle.hs_expression_forms.proofs.LinkLayerLemmas.{infix_last, negated_of, operand_of}
+use Rattle.hs_expression_forms.proofs.LinkLemmas.{LinkState, make_infix}
+use Rattle.hs_expression_forms.proofs.LinkLemmas.{make_signed, make_link}
 use Rattle.hs_expression_forms.proofs.OperandLemmas.{operand_starts}
-use Rattle.hs_expression_forms.proofs.QOpLemmas.{qop_unique}
 
 abbrev pub chain_pieces : InfixTree → List Piece
 chain_pieces x = first_pieces (out-InfixTree x).first (out-InfixTree x).rest
@@ -82,10 +74,12 @@ add_pieces x op b e =
     (flat_map-append pieces_of_link o.rest (make_link op (make_signed b e) ∷ [])
     ∙ ap (λ l. flat_map pieces_of_link o.rest ++ l)
     (append-nil (pieces_of_link (make_link op (make_signed b e))) ∙ link_pieces op b e))
-    ∙ sym (append_assoc (sign_of (negated_of o.first) (operand_of o.first)) (flat_map pieces_of_link o.rest) (link_of op b e))
+    ∙ sym (append_assoc (sign_of (negated_of o.first) (operand_of o.first)) (flat_map pieces_of_link o.rest)
+    (link_of op b e))
 
 -- a signed operand behind so many operators, whose deepest operand is so deep
-pub record SignedTook (limit : Option ℕ) (deep used : ℕ) (ts : Ts) (s : SignedOperand) (rest : Ts) (m : ℕ) : Type 0 where
+pub record SignedTook (limit : Option ℕ) (deep used : ℕ) (ts : Ts) (s : SignedOperand) (rest : Ts)
+    (m : ℕ) : Type 0 where
   pub next : Ts
   pub at : ts ≡ sign_tokens (negated_of s) ++ next
   pub took : Took operands (lowered limit (used + sign (negated_of s))) next (operand_of s) rest m
@@ -118,7 +112,8 @@ exp_goes k e = both (is_minus k) refl
     both true h = absurd (true≢false (sym (minus_qop k h) ∙ or_right (starts_operand k) _ e))
     both false h = ap (λ c. starts_operand k || c) h ∙ ap (λ c. c || false) (or_left (starts_operand k) _ e)
 
-pub no_lone : (limit : Option ℕ) (other : Links) (op : QOpTree) → other.1 ≡ Some op → (within (links false) limit).Good other → ⊥
+pub no_lone : (limit : Option ℕ) (other : Links) (op : QOpTree) → other.1 ≡ Some op →
+    (within (links false) limit).Good other → ⊥
 no_lone limit (x, None) op e good = cc
 no_lone limit (x, Some o) op e good = true≢false (sym good.0)
 
@@ -132,7 +127,8 @@ alone_quiet lone (x, Some o) op k e h = exp_goes k h
 
 pub operand_not_minus : (e : OperandTree) (tail s : Ts) → s ≡ spelling_operand e ++ tail → begins is_minus s ≡ true → ⊥
 operand_not_minus e tail s at h =
-    begins_none' (spelling_operand e ++ tail) (begins_append starts_operand (spelling_operand e) tail (operand_starts e))
+    begins_none' (spelling_operand e ++ tail) (begins_append starts_operand (spelling_operand e) tail
+    (operand_starts e))
     (ap (begins is_minus) (sym at) ∙ h)
   where
     begins_none' : (l : Ts) → begins starts_operand l ≡ true → begins is_minus l ≡ true → ⊥
@@ -190,10 +186,12 @@ module _ (limit : Option ℕ) (ts : Ts) (x : InfixTree) (here : Ts) (deep ops : 
           infix_deep (add x op b e)
           ∙ ap (λ h. max (maybe_deep h) (deepest (map piece_deep (chain_pieces (add x op b e))))
           + length (chain_pieces (add x op b e))) (add_head x op b e)
-          ∙ ap (λ l. max (maybe_deep (links_head (x, None))) (deepest (map piece_deep l)) + length l) (add_pieces x op b e)
+          ∙ ap (λ l. max (maybe_deep (links_head (x, None))) (deepest (map piece_deep l)) + length l)
+          (add_pieces x op b e)
           ∙ total b
         where
-          total : (b : Bool) → max (maybe_deep (links_head (x, None))) (deepest (map piece_deep (chain_pieces x ++ link_of op b e)))
+          total : (b : Bool) → max (maybe_deep (links_head (x, None))) (deepest (map piece_deep
+              (chain_pieces x ++ link_of op b e)))
               + length (chain_pieces x ++ link_of op b e) ≡ max deep (depth_of_operand e) + ((ops + 1) + sign b)
           total true =
               let two = ap (λ l. deepest (map piece_deep l)) (append_assoc (chain_pieces x) ((op, None) ∷ [])
@@ -217,10 +215,12 @@ module _ (limit : Option ℕ) (ts : Ts) (x : InfixTree) (here : Ts) (deep ops : 
               )
 
       bound : (b : Bool) → (within operands (lowered limit ((ops + 1) + sign b))).Good e →
-          Within limit (deep + ((ops + 1) + sign b)) → Within limit (max deep (depth_of_operand e) + ((ops + 1) + sign b))
+          Within limit (deep + ((ops + 1) + sign b)) → Within limit (max deep (depth_of_operand e) +
+          ((ops + 1) + sign b))
       bound b good room =
           within_max limit deep (depth_of_operand e) ((ops + 1) + sign b) room
-          (within_raised limit (depth_of_operand e) ((ops + 1) + sign b) (within_less limit _ _ (omega arith) room) good.1)
+          (within_raised limit (depth_of_operand e) ((ops + 1) + sign b) (within_less limit _ _
+          (omega arith) room) good.1)
 
       placed : (n : ℕ) (l : List Piece) → Placed None n l
       placed n [] = tt

@@ -1,43 +1,31 @@
 -- The steps by which a chain of operators is read.
-use Rattle.std.proofs.Common.{◌≡◌, ℕ, zero, suc, ◌+◌, ◌<◌, ◌≤◌, Bool, true, false, List, [], ◌∷◌, ◌++◌, length, refl}
+use Rattle.std.proofs.Common.{◌≡◌, ℕ, ◌+◌, ◌≤◌, Bool, true, false, List, [], ◌∷◌, ◌++◌, length}
 use Rattle.std.proofs.Common.{sym, ap, ◌∙◌, subst, true≢false, arith, length-append, append_assoc}
-use Rattle.std.specs.Prelude.{map, max, not, flat_map, ◌&&◌, ◌||◌, Option, Some, None}
-use Rattle.std.proofs.lemmas.Bool.{and_from}
-use Rattle.std.proofs.lemmas.List.{append-nil, append_cancel_left}
-use Rattle.std.proofs.lemmas.Grind.{flat_map-append}
-use Rattle.hs_forms.specs.Reading.{Form, SameStart, begins, Reads, Refuses}
-use Rattle.hs_forms.specs.Limits.{Within, lowered, deepest, all_of}
-use Rattle.hs_forms.specs.Answers.{Accepts, Rejects, Fails}
-use Rattle.hs_forms.specs.Forms.{item_form}
-use Rattle.hs_forms.specs.declared.fault.Fault.{Fault}
-use Rattle.hs_forms.specs.declared.fault.Fault.TheVariants as f
-use Rattle.hs_forms.proofs.FormLemmas.{begins_within, begins_same, begins_append, same_start_append, same_start_self}
-use Rattle.hs_forms.proofs.LimitLemmas.{within_less, within_raised, within_lowered, within_max, and_left, and_right}
-use Rattle.hs_forms.proofs.LimitLemmas.{or_left, or_right, deep_more}
-use Rattle.hs_forms.proofs.StateLemmas.{State, state_first, state_step, fails_after}
-use Rattle.hs_forms.proofs.ChainLemmas.{chain_first, chain_step, quiet_inner}
-use Rattle.hs_tokens.specs.Terminals.{minus, is_minus}
+use Rattle.std.specs.Prelude.{flat_map, Option, Some, None}
+use Rattle.hs_forms.specs.Reading.{begins}
+use Rattle.hs_forms.specs.Limits.{lowered}
+use Rattle.hs_forms.proofs.FormLemmas.{begins_within, begins_append}
+use Rattle.hs_forms.proofs.LimitLemmas.{or_left, or_right}
+use Rattle.hs_forms.proofs.ChainLemmas.{quiet_inner}
+use Rattle.hs_tokens.specs.Terminals.{minus}
 use Rattle.hs_tokens.specs.declared.terminal.Terminal.{Terminal}
 use Rattle.hs_tokens.specs.declared.terminal.Terminal.TheVariants as t
 use Rattle.hs_trees.specs.Patterns.{Ts}
 use Rattle.hs_modules.specs.Words.{qop_tokens}
-use Rattle.hs_modules.specs.ExpressionExtents.{sign}
-use Rattle.hs_modules.specs.Tokens.{sign_tokens, spelling_infix, spelling_operand}
-use Rattle.hs_modules.specs.Formed.{facts_of_operand, facts_of_infix}
+use Rattle.hs_modules.specs.Tokens.{spelling_operand}
 use Rattle.hs_modules.specs.declared.names.QOpTree.{QOpTree}
 use Rattle.hs_modules.specs.declared.names.QOpTree.TheVariants as q
 use Rattle.hs_modules.specs.declared.expressions.OperandTree.{OperandTree}
 use Rattle.hs_modules.specs.declared.expressions.InfixTree.{InfixTree, out-InfixTree}
-use Rattle.hs_expression_forms.specs.Trees.{Trees, within, Took, Failed}
-use Rattle.hs_expression_forms.specs.Expressions.{is_operand, depth_of_operand, starts_operand, starts_exp, starts_qop}
-use Rattle.hs_expression_forms.specs.Expressions.{starts_aexp, is_infix, depth_of_infix, operands}
-use Rattle.hs_expression_forms.specs.Links.{Maybe, maybe_tokens, maybe_open, maybe_deep, maybe_goes_on, maybes, Piece}
-use Rattle.hs_expression_forms.specs.Links.{piece_tokens, piece_deep, last_maybe, pieces_form, first_pieces, Links}
+use Rattle.hs_expression_forms.specs.Trees.{within}
+use Rattle.hs_expression_forms.specs.Expressions.{starts_operand, starts_qop}
+use Rattle.hs_expression_forms.specs.Expressions.{starts_aexp, operands}
+use Rattle.hs_expression_forms.specs.Links.{Maybe, maybe_tokens, Piece}
+use Rattle.hs_expression_forms.specs.Links.{piece_tokens, pieces_form, first_pieces, Links}
 use Rattle.hs_expression_forms.specs.Links.{links_head, links_pieces, links}
-use Rattle.hs_expression_forms.proofs.PieceLemmas.{pieces_chain, piece_item, piece_starts, qop_operand, qop_starts}
-use Rattle.hs_expression_forms.proofs.LinkLayerLemmas.{links_good, links_quiet, links_spelled}
-use Rattle.hs_expression_forms.proofs.LinkLemmas.{LinkState, Meeting, Next, ends, alone, plain, signed, meet}
-use Rattle.hs_expression_forms.proofs.OperandLemmas.{operand_starts}
+use Rattle.hs_expression_forms.proofs.PieceLemmas.{pieces_chain, qop_starts}
+use Rattle.hs_expression_forms.proofs.LinkLayerLemmas.{links_good, links_quiet}
+use Rattle.hs_expression_forms.proofs.LinkLemmas.{Meeting, Next, ends, alone, plain, signed}
 use Rattle.hs_expression_forms.proofs.QOpLemmas.{qop_unique}
 
 -- What goes on behind an operator.
@@ -56,7 +44,8 @@ pub infix_takes_qop : (lone : Bool) (other : Links) (k : Terminal) → other.1 �
 infix_takes_qop lone (x, None) k e h = or_left (starts_qop k) _ (or_right (starts_aexp k) _ h)
 infix_takes_qop lone (x, Some op) k e h = or_right (starts_operand k) _ h
 
-pub begins_none : (g h : Terminal → Bool) (ts : Ts) → ((k : Terminal) → g k ≡ false → h k ≡ false) → begins g ts ≡ false →
+pub begins_none : (g h : Terminal → Bool) (ts : Ts) → ((k : Terminal) → g k ≡ false → h k ≡ false) →
+    begins g ts ≡ false →
     begins h ts ≡ true → ⊥
 begins_none g h ts w q e = true≢false (sym e ∙ begins_within g h ts w q)
 
@@ -65,7 +54,8 @@ module _ (lone : Bool) (limit : Option ℕ) where
   pub behind : (x : InfixTree) (deep ops : ℕ) (op : QOpTree) (other : Links) (s after : Ts) →
       length (first_pieces (out-InfixTree x).first (out-InfixTree x).rest) ≡ ops →
       (within (links lone) limit).Good other → begins ((links lone).extends other) after ≡ false →
-      (m : Meeting limit x deep ops other (qop_tokens op ++ s) after) → Behind limit other op m.more ops m.beyond s after
+      (m : Meeting limit x deep ops other (qop_tokens op ++ s) after) →
+      Behind limit other op m.more ops m.beyond s after
   behind x deep ops op other s after long good quiet m = go m.more m.beyond m.pieces m.spelled m.next
     where
       ps : List Piece
@@ -75,7 +65,8 @@ module _ (lone : Bool) (limit : Option ℕ) where
       whole = links_good limit lone other good
 
       silent : begins ((pieces_form limit).extends (links_head other, links_pieces other)) after ≡ false
-      silent = begins_within ((links lone).extends other) ((pieces_form limit).extends (links_head other, links_pieces other))
+      silent = begins_within ((links lone).extends other) ((pieces_form limit).extends
+          (links_head other, links_pieces other))
           after (links_quiet lone limit other) quiet
 
       split : (op' : QOpTree) (v : Maybe) (rest : List Piece) →
@@ -92,7 +83,8 @@ module _ (lone : Bool) (limit : Option ℕ) where
           × (begins (operands.extends e) (flat_map piece_tokens rest ++ after) ≡ false)
       item before op' e rest n is at =
           let whole' = subst (λ l. (pieces_form limit).Good (links_head other, l)) at whole in
-          let silent' = subst (λ l. begins ((pieces_form limit).extends (links_head other, l)) after ≡ false) at silent in
+          let silent' = subst (λ l. begins ((pieces_form limit).extends
+          (links_head other, l)) after ≡ false) at silent in
           let c = pieces_chain limit in
           let it = c.laws.good_item (links_head other) before (op', Some e) rest whole' in (
             subst (λ k. (within operands (lowered limit (k + 1))).Good e) is it,
@@ -104,7 +96,8 @@ module _ (lone : Bool) (limit : Option ℕ) where
           qop_tokens op ++ s ≡ flat_map piece_tokens more ++ after → Next other more beyond →
           Behind limit other op more ops beyond s after
       go more beyond at e (ends is none) =
-          absurd (begins_none ((links lone).extends other) starts_qop after (λ k h. infix_takes_qop lone other k none h) quiet
+          absurd (begins_none ((links lone).extends other) starts_qop after
+          (λ k h. infix_takes_qop lone other k none h) quiet
           (ap (begins starts_qop) (sym (e ∙ ap (λ l. flat_map piece_tokens l ++ after) is))
           ∙ begins_append starts_qop (qop_tokens op) s (qop_starts op)))
       go more beyond at e (alone op' is o) =

@@ -1,11 +1,11 @@
 -- A first tree and others behind the same tokens, as a chain.
-use Rattle.std.proofs.Common.{◌≡◌, ℕ, zero, suc, ◌+◌, ◌<◌, ◌≤◌, Bool, true, false, List, [], ◌∷◌, ◌++◌, length, refl}
-use Rattle.std.proofs.Common.{sym, ap, ◌∙◌, subst, append_assoc, true≢false, arith, length-append}
-use Rattle.std.specs.Prelude.{max, map, flat_map, nat_le, ◌&&◌, ◌||◌, Option, Some, None}
+use Rattle.std.proofs.Common.{◌≡◌, ℕ, ◌+◌, Bool, true, false, List, [], ◌∷◌, ◌++◌, length, refl}
+use Rattle.std.proofs.Common.{sym, ap, ◌∙◌, arith, length-append}
+use Rattle.std.specs.Prelude.{max, map, Option, Some, None}
 use Rattle.std.proofs.lemmas.Bool.{and_from}
 use Rattle.std.proofs.lemmas.Bool.Decides.{nat_tests}
 use Rattle.hs_forms.specs.Reading.{begins}
-use Rattle.hs_forms.specs.Limits.{Within, deepest, all_of}
+use Rattle.hs_forms.specs.Limits.{Within, deepest}
 use Rattle.hs_forms.specs.Productions.{Chain}
 use Rattle.hs_forms.proofs.LimitLemmas.{within_less, within_max, within_zero, and_left, and_right, all_here, all_more}
 use Rattle.hs_forms.proofs.LimitLemmas.{deep_here, deep_more, or_left, or_right}

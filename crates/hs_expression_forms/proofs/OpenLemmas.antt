@@ -1,28 +1,24 @@
 -- Which operands and chains are open, and one more operand of a chain, as programs build them.
-use Rattle.std.proofs.Common.{◌≡◌, ℕ, ◌+◌, Bool, true, false, List, [], ◌∷◌, ◌++◌, refl, sym, ap, ◌∙◌, subst, inl, inr, ◌⊎◌}
-use Rattle.std.specs.Prelude.{max, map, not, ◌&&◌, Option, None, Some}
-use Rattle.hs_forms.specs.Reading.{begins}
-use Rattle.hs_tokens.specs.Terminals.{is_minus, minus}
-use Rattle.hs_tokens.specs.declared.terminal.Terminal.{Terminal}
-use Rattle.hs_tokens.specs.declared.terminal.Terminal.TheVariants as t
+use Rattle.std.proofs.Common.{◌≡◌, ℕ, ◌+◌, Bool, true, false, List, [], ◌∷◌, ◌++◌, refl, sym, ap, ◌∙◌, subst}
+use Rattle.std.specs.Prelude.{max, map, Option}
 use Rattle.hs_trees.specs.Patterns.{Ts}
 use Rattle.hs_modules.specs.Words.{qop_tokens}
 use Rattle.hs_modules.specs.ExpressionExtents.{sign}
-use Rattle.hs_modules.specs.Formed.{Facts, fact_algebra, last_of, facts_of_operand, facts_of_infix, facts_of_signed}
-use Rattle.hs_modules.specs.Formed.{facts_of_link, facts_of_lambda, facts_of_let, facts_of_if, facts_of_case}
+use Rattle.hs_modules.specs.Formed.{Facts, last_of, facts_of_operand, facts_of_infix, facts_of_signed}
+use Rattle.hs_modules.specs.Formed.{facts_of_link}
 use Rattle.hs_modules.specs.declared.names.QOpTree.{QOpTree}
-use Rattle.hs_modules.specs.declared.expressions.OperandTree.{OperandTree, OperandTree-F}
+use Rattle.hs_modules.specs.declared.expressions.OperandTree.{OperandTree}
 use Rattle.hs_modules.specs.declared.expressions.OperandTree.TheVariants as d
 use Rattle.hs_modules.specs.declared.expressions.AExpTree.{AExpTree}
 use Rattle.hs_modules.specs.declared.expressions.LambdaTree.{LambdaTree, out-LambdaTree, roll-out-LambdaTree}
 use Rattle.hs_modules.specs.declared.expressions.LetTree.{LetTree, out-LetTree, roll-out-LetTree}
 use Rattle.hs_modules.specs.declared.expressions.IfTree.{IfTree, out-IfTree, roll-out-IfTree}
 use Rattle.hs_modules.specs.declared.expressions.CaseTree.{CaseTree, out-CaseTree, roll-out-CaseTree}
-use Rattle.hs_modules.specs.declared.expressions.InfixTree.{InfixTree, out-InfixTree, out-roll-InfixTree}
+use Rattle.hs_modules.specs.declared.expressions.InfixTree.{out-InfixTree, out-roll-InfixTree}
 use Rattle.hs_modules.specs.declared.expressions.OpOperand.{OpOperand, out-OpOperand, out-roll-OpOperand}
-use Rattle.hs_modules.specs.declared.expressions.SignedOperand.{SignedOperand, out-SignedOperand, out-roll-SignedOperand}
+use Rattle.hs_modules.specs.declared.expressions.SignedOperand.{SignedOperand, out-roll-SignedOperand}
 use Rattle.hs_expression_forms.proofs.OperandLayerLemmas.{lambda_facts, let_facts, if_facts, case_facts, apply_facts}
-use Rattle.hs_expression_forms.proofs.LinkLayerLemmas.{negated_of, operand_of, last_fact, infix_facts, link_facts}
+use Rattle.hs_expression_forms.proofs.LinkLayerLemmas.{negated_of, operand_of, infix_facts, link_facts}
 use Rattle.hs_expression_forms.proofs.LinkLayerLemmas.{signed_facts}
 use Rattle.hs_expression_forms.proofs.LinkLemmas.{LinkState, make_infix, make_signed, make_link}
 use Rattle.hs_expression_forms.proofs.LinkReturnLemmas.{SignedTook}

@@ -1,48 +1,45 @@
 -- Lambdas, `let`, `if`, `case` and applications from their parts.
-use Rattle.std.proofs.Common.{◌≡◌, ℕ, ◌+◌, Bool, true, false, List, [], ◌∷◌, ◌++◌, refl, sym, ap, ◌∙◌, subst}
+use Rattle.std.proofs.Common.{◌≡◌, ◌+◌, Bool, true, false, List, [], ◌∷◌, ◌++◌, refl, sym, ap, ◌∙◌}
 use Rattle.std.proofs.Common.{append_assoc, arith}
-use Rattle.std.specs.Prelude.{flat_map, map, max, ◌&&◌}
+use Rattle.std.specs.Prelude.{map, max, ◌&&◌}
 use Rattle.std.proofs.lemmas.List.Folds.{flat_map-map}
 use Rattle.std.proofs.lemmas.Simd.{map-map}
 use Rattle.hs_forms.specs.Limits.{deepest, all_of}
 use Rattle.hs_tokens.specs.declared.terminal.Terminal.TheVariants as t
 use Rattle.hs_tokens.specs.declared.word.Word.TheVariants as w
-use Rattle.hs_trees.specs.Patterns.{Ts, APats, spelling_apat, spelling_apats, are_apats, is_apat, depth_of_apat}
-use Rattle.hs_trees.specs.Patterns.{depth_of_apats, depth_of_lpat, depth_of_pat}
+use Rattle.hs_trees.specs.Patterns.{APats, spelling_apats, are_apats, depth_of_apat}
+use Rattle.hs_trees.specs.Patterns.{depth_of_lpat, depth_of_pat}
 use Rattle.hs_trees.specs.declared.patterns.APatTree.{APatTree}
 use Rattle.hs_trees.specs.declared.patterns.LPatTree.{LPatTree-F}
 use Rattle.hs_trees.specs.declared.patterns.LPatTree.TheVariants as lp
-use Rattle.hs_trees.specs.declared.patterns.PatTree.{PatTree, fold-roll-PatTree}
+use Rattle.hs_trees.specs.declared.patterns.PatTree.{fold-roll-PatTree}
 use Rattle.hs_trees.specs.declared.patterns.LPatTree.{fold-roll-LPatTree}
 use Rattle.hs_trees.proofs.PatternLayerLemmas.{pat_deep, lpat_deep}
 use Rattle.hs_trees.proofs.PatternChainLemmas.{make_pat}
 use Rattle.hs_modules.specs.Extents.{Extent, depth_of}
 use Rattle.hs_modules.specs.PartExtents.{extent_of_apat, extent_of_lpat, extent_of_pat, apat_extent, lpat_extent}
 use Rattle.hs_modules.specs.PartExtents.{op_lpat_extent, pat_extent}
-use Rattle.hs_modules.specs.ExpressionExtents.{extent_algebra, extent_of_exp, extent_of_aexp, extent_of_operand}
-use Rattle.hs_modules.specs.ExpressionExtents.{extent_of_lambda, extent_of_let, extent_of_if, extent_of_case}
-use Rattle.hs_modules.specs.ExpressionExtents.{extent_of_decl_block, extent_of_alt_block}
-use Rattle.hs_modules.specs.Tokens.{token_algebra, joined, spelling_exp, spelling_aexp, spelling_operand}
-use Rattle.hs_modules.specs.Tokens.{spelling_lambda, spelling_let, spelling_if, spelling_case, spelling_decl_block}
+use Rattle.hs_modules.specs.ExpressionExtents.{extent_algebra, extent_of_aexp}
+use Rattle.hs_modules.specs.Tokens.{token_algebra, spelling_exp, spelling_aexp, spelling_operand}
+use Rattle.hs_modules.specs.Tokens.{spelling_decl_block}
 use Rattle.hs_modules.specs.Tokens.{spelling_alt_block}
 use Rattle.hs_modules.specs.Formed.{Facts, fact_algebra, opened, closed, good_of, facts_of_exp, facts_of_aexp}
-use Rattle.hs_modules.specs.Formed.{facts_of_operand, facts_of_lambda, facts_of_let, facts_of_if, facts_of_case}
-use Rattle.hs_modules.specs.Formed.{facts_of_decl_block, facts_of_alt_block}
+use Rattle.hs_modules.specs.Formed.{facts_of_operand}
+use Rattle.hs_modules.specs.Formed.{facts_of_decl_block}
 use Rattle.hs_modules.specs.declared.expressions.OperandTree.{OperandTree, OperandTree-F}
 use Rattle.hs_modules.specs.declared.expressions.OperandTree.TheVariants as d
 use Rattle.hs_modules.specs.declared.expressions.AExpTree.{AExpTree}
 use Rattle.hs_modules.specs.declared.expressions.ExpTree.{ExpTree}
-use Rattle.hs_modules.specs.declared.expressions.LambdaTree.{LambdaTree, roll-LambdaTree}
-use Rattle.hs_modules.specs.declared.expressions.LetTree.{LetTree, roll-LetTree}
-use Rattle.hs_modules.specs.declared.expressions.IfTree.{IfTree, roll-IfTree}
-use Rattle.hs_modules.specs.declared.expressions.CaseTree.{CaseTree, roll-CaseTree}
+use Rattle.hs_modules.specs.declared.expressions.LambdaTree.{roll-LambdaTree}
+use Rattle.hs_modules.specs.declared.expressions.LetTree.{roll-LetTree}
+use Rattle.hs_modules.specs.declared.expressions.IfTree.{roll-IfTree}
+use Rattle.hs_modules.specs.declared.expressions.CaseTree.{roll-CaseTree}
 use Rattle.hs_modules.specs.declared.expressions.DeclBlock.{DeclBlock}
 use Rattle.hs_modules.specs.declared.expressions.AltBlock.{AltBlock}
 use Rattle.hs_modules.proofs.FoldingLemmas.{operand_folded, lambda_folded, let_folded, if_folded, case_folded}
 use Rattle.hs_modules.proofs.PartDepthLemmas.{pat_depth_is}
-use Rattle.hs_expression_forms.specs.Trees.{Trees}
 use Rattle.hs_expression_forms.specs.Expressions.{is_aexp, is_exp, depth_of_aexp, depth_of_exp, depth_of_operand}
-use Rattle.hs_expression_forms.specs.Expressions.{applies, lambdas, lets, ifs, cases, decl_blocks, alt_blocks}
+use Rattle.hs_expression_forms.specs.Expressions.{applies, lambdas, lets, ifs, cases}
 
 -- the depth of the extent of an `apat`
 pub apat_depth_is : (x : APatTree) → (extent_of_apat x).depth ≡ depth_of_apat x

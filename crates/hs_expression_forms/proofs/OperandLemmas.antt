@@ -1,39 +1,34 @@
 -- Operands of a chain, each known by its first token.
-use Rattle.std.proofs.Common.{◌≡◌, ℕ, zero, suc, ◌+◌, Bool, true, false, List, [], ◌∷◌, ◌++◌, refl, sym, ap, ◌∙◌, subst}
-use Rattle.std.proofs.Common.{true≢false, arith, append_assoc}
-use Rattle.std.specs.Prelude.{nat_eq, ◌&&◌, ◌||◌, max, map, Option, None}
-use Rattle.std.proofs.lemmas.Bool.{and_from}
+use Rattle.std.proofs.Common.{◌≡◌, ℕ, zero, suc, Bool, true, false, [], ◌∷◌, ◌++◌, refl, sym, ap, ◌∙◌, subst}
+use Rattle.std.proofs.Common.{true≢false, arith}
+use Rattle.std.specs.Prelude.{nat_eq, ◌||◌}
 use Rattle.std.proofs.lemmas.Bool.Decides.{nat_tests}
 use Rattle.hs_forms.specs.Reading.{begins}
-use Rattle.hs_forms.specs.Limits.{Within, deepest, all_of}
 use Rattle.hs_forms.proofs.FormLemmas.{begins_append}
-use Rattle.hs_forms.proofs.LimitLemmas.{or_left, within_zero}
+use Rattle.hs_forms.proofs.LimitLemmas.{or_left}
 use Rattle.hs_tokens.specs.declared.terminal.Terminal.{Terminal}
 use Rattle.hs_tokens.specs.declared.terminal.Terminal.TheVariants as t
 use Rattle.hs_tokens.specs.declared.word.Word.TheVariants as w
 use Rattle.hs_trees.specs.Patterns.{Ts}
 use Rattle.hs_modules.specs.Tokens.{spelling_operand, spelling_aexp}
-use Rattle.hs_modules.specs.Formed.{Facts, good_of, facts_of_operand}
+use Rattle.hs_modules.specs.Formed.{good_of}
 use Rattle.hs_modules.specs.declared.expressions.OperandTree.{OperandTree, OperandTree-F, out-OperandTree}
 use Rattle.hs_modules.specs.declared.expressions.OperandTree.{roll-OperandTree, roll-out-OperandTree}
 use Rattle.hs_modules.specs.declared.expressions.OperandTree.TheVariants as d
-use Rattle.hs_modules.specs.declared.expressions.AExpTree.{AExpTree}
-use Rattle.hs_modules.specs.declared.expressions.ExpTree.{ExpTree}
-use Rattle.hs_modules.specs.declared.expressions.LambdaTree.{LambdaTree, out-LambdaTree, roll-out-LambdaTree}
-use Rattle.hs_modules.specs.declared.expressions.LetTree.{LetTree, out-LetTree, roll-out-LetTree}
-use Rattle.hs_modules.specs.declared.expressions.IfTree.{IfTree, out-IfTree, roll-out-IfTree}
-use Rattle.hs_modules.specs.declared.expressions.CaseTree.{CaseTree, out-CaseTree, roll-out-CaseTree}
+use Rattle.hs_modules.specs.declared.expressions.LambdaTree.{out-LambdaTree, roll-out-LambdaTree}
+use Rattle.hs_modules.specs.declared.expressions.LetTree.{out-LetTree, roll-out-LetTree}
+use Rattle.hs_modules.specs.declared.expressions.IfTree.{out-IfTree, roll-out-IfTree}
+use Rattle.hs_modules.specs.declared.expressions.CaseTree.{out-CaseTree, roll-out-CaseTree}
 use Rattle.hs_modules.proofs.FoldingLemmas.{OperandTrees}
-use Rattle.hs_expression_forms.specs.Trees.{Trees, Makes, within}
-use Rattle.hs_expression_forms.specs.Expressions.{starts_aexp, starts_operand, operand_goes_on, exp_goes_on, goes_on}
-use Rattle.hs_expression_forms.specs.Expressions.{operands, lambdas, lets, ifs, cases, applies, aexps}
+use Rattle.hs_expression_forms.specs.Trees.{Makes}
+use Rattle.hs_expression_forms.specs.Expressions.{starts_aexp, starts_operand, operand_goes_on}
+use Rattle.hs_expression_forms.specs.Expressions.{operands, lambdas, lets, ifs, cases, applies}
 use Rattle.hs_expression_forms.proofs.OperandLayerLemmas.{Lambda, make_lambda, lambda_spelled, lambda_facts}
 use Rattle.hs_expression_forms.proofs.OperandLayerLemmas.{lambda_deep, Let, make_let, let_spelled, let_facts, let_deep}
 use Rattle.hs_expression_forms.proofs.OperandLayerLemmas.{If, make_if, if_spelled, if_facts, if_formed, if_deep, Case}
 use Rattle.hs_expression_forms.proofs.OperandLayerLemmas.{make_case, case_spelled, case_facts, case_deep, Apply}
 use Rattle.hs_expression_forms.proofs.OperandLayerLemmas.{make_apply, apply_spelled, apply_facts, apply_deep}
 use Rattle.hs_expression_forms.proofs.AExpLayerLemmas.{aexp_starts}
-use Rattle.hs_expression_forms.proofs.StarterLemmas.{aexp_operand}
 
 -- which operand a token begins
 abbrev pub operand_class : Terminal → ℕ
@@ -78,7 +73,8 @@ aexp_class t.LeftParen h = refl
 aexp_class t.LeftBracket h = refl
 aexp_class _ h = absurd (true≢false (sym h))
 
-aexp_first : (ts : Ts) → begins starts_aexp ts ≡ true → (k : Terminal) × (more : Ts) × (ts ≡ k ∷ more) × (operand_class k ≡ 5)
+aexp_first : (ts : Ts) → begins starts_aexp ts ≡ true → (k : Terminal) × (more : Ts) × (ts ≡ k ∷ more)
+    × (operand_class k ≡ 5)
 aexp_first [] h = absurd (true≢false (sym h))
 aexp_first (k ∷ ts) h = (k, ts, refl, aexp_class k h)
 

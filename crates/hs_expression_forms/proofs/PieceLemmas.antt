@@ -1,7 +1,7 @@
 -- Pieces of a chain, as a chain of their own.
-use Rattle.std.proofs.Common.{◌≡◌, ℕ, zero, suc, ◌+◌, ◌≤◌, Bool, true, false, List, [], ◌∷◌, ◌++◌, length, refl, sym}
-use Rattle.std.proofs.Common.{ap, ◌∙◌, subst, true≢false, arith, length-append}
-use Rattle.std.specs.Prelude.{map, not, flat_map, ◌&&◌, ◌||◌, Option, Some, None}
+use Rattle.std.proofs.Common.{◌≡◌, ℕ, ◌+◌, Bool, true, false, List, [], ◌∷◌, ◌++◌, length, refl, sym}
+use Rattle.std.proofs.Common.{ap, ◌∙◌, subst, true≢false, arith}
+use Rattle.std.specs.Prelude.{map, not, ◌&&◌, Option, Some, None}
 use Rattle.std.proofs.lemmas.Bool.{and_from}
 use Rattle.hs_forms.specs.Reading.{begins}
 use Rattle.hs_forms.specs.Limits.{Within, lowered, all_of}
@@ -10,8 +10,6 @@ use Rattle.hs_forms.proofs.FormLemmas.{begins_append}
 use Rattle.hs_forms.proofs.LimitLemmas.{and_left, and_right, all_here, all_more, or_left, or_right}
 use Rattle.hs_tokens.specs.declared.terminal.Terminal.{Terminal}
 use Rattle.hs_tokens.specs.declared.terminal.Terminal.TheVariants as t
-use Rattle.hs_trees.specs.Patterns.{Ts}
-use Rattle.hs_trees.specs.declared.patterns.QConOpTree.{QConOpTree}
 use Rattle.hs_trees.specs.declared.patterns.QConOpTree.TheVariants as o
 use Rattle.hs_modules.specs.Words.{qop_tokens}
 use Rattle.hs_modules.specs.Formed.{facts_of_operand}
@@ -21,8 +19,8 @@ use Rattle.hs_expression_forms.specs.Trees.{within}
 use Rattle.hs_expression_forms.specs.Expressions.{starts_operand, starts_qop, goes_on}
 use Rattle.hs_expression_forms.specs.Links.{Maybe, maybe_formed, maybe_open, maybe_deep, maybe_goes_on, maybes, Piece}
 use Rattle.hs_expression_forms.specs.Links.{piece_tokens, piece_formed, piece_deep, piece_open, shut_front, last_maybe}
-use Rattle.hs_expression_forms.specs.Links.{pieces_formed, Placed, pieces_form}
-use Rattle.hs_expression_forms.proofs.StarterLemmas.{qop_apart, or_off}
+use Rattle.hs_expression_forms.specs.Links.{Placed, pieces_form}
+use Rattle.hs_expression_forms.proofs.StarterLemmas.{qop_apart}
 
 pub qop_starts : (op : QOpTree) → begins starts_qop (qop_tokens op) ≡ true
 qop_starts (q.Sym n) = refl

@@ -1,16 +1,15 @@
 -- Operators: no two have one spelling, and none goes on.
-use Rattle.std.proofs.Common.{◌≡◌, ℕ, ◌+◌, ◌<◌, true, false, List, [], ◌∷◌, ◌++◌, length, refl, sym, ap, ◌∙◌, arith}
+use Rattle.std.proofs.Common.{◌≡◌, ℕ, ◌<◌, ◌++◌, length, refl, ap, arith}
 use Rattle.std.proofs.Common.{length-append}
 use Rattle.std.specs.Prelude.{Option, None, Some}
 use Rattle.hs_forms.specs.Limits.{Within}
-use Rattle.hs_forms.specs.Reading.{begins, Reads}
-use Rattle.hs_tokens.specs.declared.terminal.Terminal.TheVariants as t
+use Rattle.hs_forms.specs.Reading.{Reads}
 use Rattle.hs_trees.specs.Patterns.{Ts}
 use Rattle.hs_trees.specs.declared.patterns.QConOpTree.TheVariants as o
 use Rattle.hs_modules.specs.Words.{qop_tokens}
 use Rattle.hs_modules.specs.declared.names.QOpTree.{QOpTree}
 use Rattle.hs_modules.specs.declared.names.QOpTree.TheVariants as q
-use Rattle.hs_expression_forms.specs.Trees.{Trees, within, Took}
+use Rattle.hs_expression_forms.specs.Trees.{within, Took}
 use Rattle.hs_expression_forms.specs.Expressions.{qops}
 
 pub qop_unique : (op other : QOpTree) (s after : Ts) → qop_tokens op ++ s ≡ qop_tokens other ++ after →
@@ -31,7 +30,11 @@ qop_unique (q.Quoted n) (q.Con o.Colon) s after e = absurd cc
 qop_unique (q.Quoted n) (q.Con (o.Quoted m)) s after e = absurd cc
 qop_unique (q.QualifiedSym n) (q.Sym m) s after e = absurd cc
 qop_unique (q.QualifiedSym n) (q.Quoted m) s after e = absurd cc
-qop_unique (q.QualifiedSym n) (q.QualifiedSym m) s after e = let same : m ≡ n = cc in (ap (λ k. q.QualifiedSym k) same, cc)
+qop_unique (q.QualifiedSym n) (q.QualifiedSym m) s after e = let same : m ≡ n = cc in (
+  ap
+      (λ k. q.QualifiedSym k) same,
+  cc,
+)
 qop_unique (q.QualifiedSym n) (q.QualifiedQuoted m) s after e = absurd cc
 qop_unique (q.QualifiedSym n) (q.Con (o.Sym m)) s after e = absurd cc
 qop_unique (q.QualifiedSym n) (q.Con o.Colon) s after e = absurd cc
@@ -39,7 +42,11 @@ qop_unique (q.QualifiedSym n) (q.Con (o.Quoted m)) s after e = absurd cc
 qop_unique (q.QualifiedQuoted n) (q.Sym m) s after e = absurd cc
 qop_unique (q.QualifiedQuoted n) (q.Quoted m) s after e = absurd cc
 qop_unique (q.QualifiedQuoted n) (q.QualifiedSym m) s after e = absurd cc
-qop_unique (q.QualifiedQuoted n) (q.QualifiedQuoted m) s after e = let same : m ≡ n = cc in (ap (λ k. q.QualifiedQuoted k) same, cc)
+qop_unique (q.QualifiedQuoted n) (q.QualifiedQuoted m) s after e = let same : m ≡ n = cc in (
+  ap
+      (λ k. q.QualifiedQuoted k) same,
+  cc,
+)
 qop_unique (q.QualifiedQuoted n) (q.Con (o.Sym m)) s after e = absurd cc
 qop_unique (q.QualifiedQuoted n) (q.Con o.Colon) s after e = absurd cc
 qop_unique (q.QualifiedQuoted n) (q.Con (o.Quoted m)) s after e = absurd cc
@@ -63,7 +70,11 @@ qop_unique (q.Con (o.Quoted n)) (q.QualifiedSym m) s after e = absurd cc
 qop_unique (q.Con (o.Quoted n)) (q.QualifiedQuoted m) s after e = absurd cc
 qop_unique (q.Con (o.Quoted n)) (q.Con (o.Sym m)) s after e = absurd cc
 qop_unique (q.Con (o.Quoted n)) (q.Con o.Colon) s after e = absurd cc
-qop_unique (q.Con (o.Quoted n)) (q.Con (o.Quoted m)) s after e = let same : m ≡ n = cc in (ap (λ k. q.Con (o.Quoted k)) same, cc)
+qop_unique (q.Con (o.Quoted n)) (q.Con (o.Quoted m)) s after e = let same : m ≡ n = cc in (
+  ap (λ k. q.Con
+      (o.Quoted k)) same,
+  cc,
+)
 
 pub qop_reads : (limit : Option ℕ) (op : QOpTree) (rest : Ts) → Reads (within qops limit) op rest
 qop_reads limit op rest = record {

@@ -1,30 +1,28 @@
 -- What stands in a row in lambdas, `let`, `if`, `case` and sections, and the tokens that end it.
-use Rattle.std.proofs.Common.{◌≡◌, ℕ, zero, suc, ◌+◌, Bool, true, false, List, [], ◌∷◌, ◌++◌, length, refl, sym, ap}
-use Rattle.std.proofs.Common.{◌∙◌, subst, true≢false, arith, append_assoc}
-use Rattle.std.specs.Prelude.{max, map, flat_map, ◌&&◌, ◌||◌, Option, Some, None}
+use Rattle.std.proofs.Common.{◌≡◌, ℕ, Bool, true, false, [], ◌∷◌, ◌++◌, refl, sym, ap}
+use Rattle.std.proofs.Common.{◌∙◌, arith}
+use Rattle.std.specs.Prelude.{max, ◌&&◌, Some, None}
 use Rattle.std.proofs.lemmas.Bool.{and_from}
 use Rattle.hs_forms.specs.Reading.{begins}
 use Rattle.hs_forms.specs.Limits.{Within}
 use Rattle.hs_forms.proofs.FormLemmas.{begins_append}
 use Rattle.hs_tokens.specs.declared.terminal.Terminal.{Terminal}
 use Rattle.hs_tokens.specs.declared.terminal.Terminal.TheVariants as t
-use Rattle.hs_tokens.specs.declared.word.Word.TheVariants as w
-use Rattle.hs_trees.specs.Patterns.{Ts}
 use Rattle.hs_modules.specs.Extents.{depth_of}
 use Rattle.hs_modules.specs.ExpressionExtents.{extent_algebra, extent_of_alt_block, extent_of_alt_slot}
-use Rattle.hs_modules.specs.Tokens.{token_algebra, spelling_exp, spelling_infix, spelling_alt_block, spelling_alt_slot}
+use Rattle.hs_modules.specs.Tokens.{token_algebra, spelling_exp, spelling_infix, spelling_alt_block}
 use Rattle.hs_modules.specs.Formed.{fact_algebra, good_of, facts_of_exp, facts_of_infix, facts_of_alt_block}
 use Rattle.hs_modules.specs.Formed.{facts_of_alt_slot}
 use Rattle.hs_modules.specs.declared.expressions.ExpTree.{ExpTree}
 use Rattle.hs_modules.specs.declared.expressions.ExpTree.TheVariants as v
 use Rattle.hs_modules.specs.declared.expressions.InfixTree.{InfixTree}
 use Rattle.hs_modules.specs.declared.expressions.AltBlock.{AltBlock, out-AltBlock, roll-AltBlock, roll-out-AltBlock}
-use Rattle.hs_modules.specs.declared.expressions.AltSlot.{AltSlot, AltSlot-F}
+use Rattle.hs_modules.specs.declared.expressions.AltSlot.{AltSlot-F}
 use Rattle.hs_modules.specs.declared.expressions.AltSlot.TheVariants as sl
 use Rattle.hs_modules.proofs.FoldingLemmas.{alt_block_folded, alt_slot_folded}
-use Rattle.hs_expression_forms.specs.Trees.{Trees, within, row, ended, Follows}
+use Rattle.hs_expression_forms.specs.Trees.{Trees, row, ended, Follows}
 use Rattle.hs_expression_forms.specs.Expressions.{exps, infixes, is_exp, depth_of_exp, starts_exp, goes_on, alt_blocks}
-use Rattle.hs_expression_forms.specs.Expressions.{exp_goes_on, infix_goes_on, is_infix, depth_of_infix}
+use Rattle.hs_expression_forms.specs.Expressions.{is_infix, depth_of_infix}
 use Rattle.hs_expression_forms.specs.Fronts.{section_ops}
 use Rattle.hs_expression_forms.proofs.StarterLemmas.{closes}
 use Rattle.hs_expression_forms.proofs.LinkFirstLemmas.{least_infix, least_links_good}
@@ -104,11 +102,13 @@ least_block = roll-AltBlock (record { first = sl.NoAlt; rest = [] })
 
 slot_formed : (facts_of_alt_slot sl.NoAlt).good ≡ true
 unfolding fact_algebra
-slot_formed = ap (λ y. (facts_of_alt_slot y).good) (sym sl.rolls-NoAlt) ∙ ap good_of (alt_slot_folded fact_algebra AltSlot-F.NoAlt)
+slot_formed = ap (λ y. (facts_of_alt_slot y).good) (sym sl.rolls-NoAlt)
+    ∙ ap good_of (alt_slot_folded fact_algebra AltSlot-F.NoAlt)
 
 slot_deep : (extent_of_alt_slot sl.NoAlt).depth ≡ 0
 unfolding extent_algebra
-slot_deep = ap (λ y. (extent_of_alt_slot y).depth) (sym sl.rolls-NoAlt) ∙ ap depth_of (alt_slot_folded extent_algebra AltSlot-F.NoAlt)
+slot_deep = ap (λ y. (extent_of_alt_slot y).depth) (sym sl.rolls-NoAlt)
+    ∙ ap depth_of (alt_slot_folded extent_algebra AltSlot-F.NoAlt)
 
 block_formed : (facts_of_alt_block least_block).good ≡ true
 unfolding fact_algebra

@@ -1,15 +1,15 @@
 -- The tokens that begin expressions and their parts, and by which expressions go on.
-use Rattle.std.proofs.Common.{◌≡◌, ℕ, Bool, true, false, List, [], ◌∷◌, ◌++◌, refl, sym, ap, ◌∙◌, true≢false}
+use Rattle.std.proofs.Common.{◌≡◌, Bool, true, false, [], ◌∷◌, refl, sym, true≢false}
 use Rattle.std.specs.Prelude.{◌&&◌, ◌||◌}
 use Rattle.hs_forms.specs.Reading.{begins}
 use Rattle.hs_forms.proofs.LimitLemmas.{or_left, or_right}
-use Rattle.hs_tokens.specs.Terminals.{is_arrow, is_comma, is_minus}
+use Rattle.hs_tokens.specs.Terminals.{is_arrow}
 use Rattle.hs_tokens.specs.declared.terminal.Terminal.{Terminal}
 use Rattle.hs_tokens.specs.declared.terminal.Terminal.TheVariants as t
 use Rattle.hs_tokens.specs.declared.word.Word.TheVariants as w
 use Rattle.hs_trees.specs.Types.{starts_atype}
 use Rattle.hs_trees.specs.Patterns.{Ts}
-use Rattle.hs_expression_forms.specs.Expressions.{is_double_colon, starts_aexp, starts_operand, starts_exp, starts_qop}
+use Rattle.hs_expression_forms.specs.Expressions.{is_double_colon, starts_aexp, starts_operand, starts_qop}
 use Rattle.hs_expression_forms.specs.Expressions.{goes_on}
 
 -- fewer ways to go on

@@ -1,13 +1,12 @@
 -- How kinds of trees are read that are put together of others.
-use Rattle.std.proofs.Common.{◌≡◌, ℕ, zero, suc, ◌+◌, ◌<◌, ◌≤◌, Bool, true, false, List, [], ◌∷◌, ◌++◌, length, refl}
-use Rattle.std.proofs.Common.{sym, ap, ◌∙◌, subst, append_assoc, true≢false, arith, length-append}
-use Rattle.std.specs.Prelude.{max, ◌&&◌, Option}
-use Rattle.std.proofs.lemmas.List.{append-nil}
+use Rattle.std.proofs.Common.{◌≡◌, ℕ, ◌+◌, ◌<◌, ◌≤◌, Bool, true, false, List, [], ◌∷◌, ◌++◌, length, refl}
+use Rattle.std.proofs.Common.{sym, ap, ◌∙◌, subst, append_assoc, arith}
+use Rattle.std.specs.Prelude.{max, Option}
 use Rattle.std.proofs.lemmas.Bool.{and_from}
 use Rattle.hs_forms.specs.Reading.{Form, SameStart, begins, Reads, Refuses}
 use Rattle.hs_forms.specs.Limits.{Within, lowered}
-use Rattle.hs_forms.specs.Answers.{Accepts, Rejects, Fails}
-use Rattle.hs_forms.specs.Forms.{behind, closed, pair}
+use Rattle.hs_forms.specs.Answers.{Rejects}
+use Rattle.hs_forms.specs.Forms.{pair}
 use Rattle.hs_forms.specs.declared.fault.Fault.{Fault}
 use Rattle.hs_forms.proofs.FormLemmas.{reads_behind, refuses_behind, reads_closed, refuses_closed, closing_missed}
 use Rattle.hs_forms.proofs.FormLemmas.{reads_pair, pair_first, pair_second, completes_pair, begins_within}

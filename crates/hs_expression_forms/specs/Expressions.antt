@@ -1,6 +1,6 @@
 -- The kinds of trees of expressions and of what stands in their blocks, as they are read (Haskell 2010 Report,
 -- chapter 3).
-use Rattle.std.specs.Prelude.{◌≡◌, ℕ, ◌+◌, max, Bool, true, false, not, ◌&&◌, ◌||◌, nat_le, List, [], ◌∷◌, ◌++◌, length}
+use Rattle.std.specs.Prelude.{ℕ, max, Bool, true, false, ◌&&◌, ◌||◌, nat_le, List, [], ◌∷◌, ◌++◌, length}
 use Rattle.std.specs.Prelude.{flat_map, map, Option, Some, None}
 use Rattle.hs_forms.specs.Limits.{deepest, all_of}
 use Rattle.hs_tokens.specs.Terminals.{is_arrow, is_comma, is_minus}
@@ -8,25 +8,20 @@ use Rattle.hs_tokens.specs.declared.terminal.Terminal.{Terminal}
 use Rattle.hs_tokens.specs.declared.terminal.Terminal.TheVariants as t
 use Rattle.hs_tokens.specs.declared.word.Word.TheVariants as w
 use Rattle.hs_trees.specs.Types.{spelling_type, is_type, depth_of_type, starts_atype}
-use Rattle.hs_trees.specs.Patterns.{Ts, APats, spelling_apats, are_apats, depth_of_apats, starts_apat, spelling_pat}
-use Rattle.hs_trees.specs.Patterns.{is_pat, depth_of_pat, is_gcon}
+use Rattle.hs_trees.specs.Patterns.{APats, spelling_apats, are_apats, depth_of_apats, starts_apat, spelling_pat}
+use Rattle.hs_trees.specs.Patterns.{is_pat, depth_of_pat}
 use Rattle.hs_tokens.specs.Terminals.{is_at, starts_qconop}
 use Rattle.hs_trees.specs.declared.types.TypeTree.{TypeTree}
 use Rattle.hs_trees.specs.declared.patterns.PatTree.{PatTree}
-use Rattle.hs_modules.specs.Words.{qop_tokens, is_bare_minus}
-use Rattle.hs_modules.specs.Tokens.{spelling_aexp, spelling_exp, spelling_infix, spelling_operand, spelling_guard}
-use Rattle.hs_modules.specs.Tokens.{spelling_gd, spelling_gda, spelling_rhs_body, spelling_rhs, spelling_locals}
-use Rattle.hs_modules.specs.Tokens.{spelling_alt_body, spelling_alt, spelling_alt_slot, spelling_alt_block}
-use Rattle.hs_modules.specs.Tokens.{spelling_decl, spelling_decl_slot, spelling_decl_block}
+use Rattle.hs_modules.specs.Words.{qop_tokens}
+use Rattle.hs_modules.specs.Tokens.{spelling_aexp, spelling_exp, spelling_infix, spelling_operand}
+use Rattle.hs_modules.specs.Tokens.{spelling_alt_block}
+use Rattle.hs_modules.specs.Tokens.{spelling_decl_block}
 use Rattle.hs_modules.specs.Formed.{Facts, facts_of_aexp, facts_of_exp, facts_of_infix, facts_of_operand}
-use Rattle.hs_modules.specs.Formed.{facts_of_guard, facts_of_gd, facts_of_gda, facts_of_rhs_body, facts_of_rhs}
-use Rattle.hs_modules.specs.Formed.{facts_of_locals, facts_of_alt_body, facts_of_alt, facts_of_alt_slot}
-use Rattle.hs_modules.specs.Formed.{facts_of_alt_block, facts_of_decl, facts_of_decl_slot, facts_of_decl_block}
+use Rattle.hs_modules.specs.Formed.{facts_of_alt_block, facts_of_decl_block}
 use Rattle.hs_modules.specs.ExpressionExtents.{extent_of_aexp, extent_of_exp, extent_of_infix, extent_of_operand}
-use Rattle.hs_modules.specs.ExpressionExtents.{extent_of_guard, extent_of_gd, extent_of_gda, extent_of_rhs_body}
-use Rattle.hs_modules.specs.ExpressionExtents.{extent_of_rhs, extent_of_locals, extent_of_alt_body, extent_of_alt}
-use Rattle.hs_modules.specs.ExpressionExtents.{extent_of_alt_slot, extent_of_alt_block, extent_of_decl}
-use Rattle.hs_modules.specs.ExpressionExtents.{extent_of_decl_slot, extent_of_decl_block}
+use Rattle.hs_modules.specs.ExpressionExtents.{extent_of_alt_block}
+use Rattle.hs_modules.specs.ExpressionExtents.{extent_of_decl_block}
 use Rattle.hs_modules.specs.declared.names.QOpTree.{QOpTree}
 use Rattle.hs_modules.specs.declared.expressions.AExpTree.{AExpTree}
 use Rattle.hs_modules.specs.declared.expressions.ExpTree.{ExpTree}

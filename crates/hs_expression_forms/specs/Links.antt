@@ -1,13 +1,13 @@
 -- A chain of operators piece by piece (Haskell 2010 Report, section 3.4). Each operator and each sign begins a piece, so
 -- the number of the pieces is what the chain adds to its deepest operand: `- a + - b` are the pieces `- a`, `+`, `- b`.
-use Rattle.std.specs.Prelude.{◌≡◌, ℕ, ◌+◌, max, Bool, true, false, not, ◌&&◌, ◌||◌, List, [], ◌∷◌, ◌++◌, length, flat_map}
+use Rattle.std.specs.Prelude.{◌≡◌, ℕ, ◌+◌, Bool, true, false, not, ◌&&◌, ◌||◌, List, [], ◌∷◌, ◌++◌, flat_map}
 use Rattle.std.specs.Prelude.{map, Option, Some, None}
 use Rattle.hs_forms.specs.Reading.{Form}
-use Rattle.hs_forms.specs.Limits.{Within, lowered, deepest, all_of}
+use Rattle.hs_forms.specs.Limits.{Within, lowered, all_of}
 use Rattle.hs_tokens.specs.Terminals.{minus}
 use Rattle.hs_tokens.specs.declared.terminal.Terminal.{Terminal}
 use Rattle.hs_trees.specs.Patterns.{Ts}
-use Rattle.hs_modules.specs.Words.{qop_tokens, is_bare_minus}
+use Rattle.hs_modules.specs.Words.{qop_tokens}
 use Rattle.hs_modules.specs.Tokens.{spelling_operand, spelling_infix}
 use Rattle.hs_modules.specs.Formed.{facts_of_operand, facts_of_infix}
 use Rattle.hs_modules.specs.declared.names.QOpTree.{QOpTree}

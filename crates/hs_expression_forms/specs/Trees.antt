@@ -1,6 +1,6 @@
 -- Kinds of trees with all that their reader has to know, and how they are put together: the tokens of a tree, whether
 -- it is well formed, how deep it is, and the tokens by which it could go on.
-use Rattle.std.specs.Prelude.{◌≡◌, ℕ, zero, ◌+◌, max, Bool, true, false, ◌&&◌, List, [], ◌∷◌, ◌++◌, Option}
+use Rattle.std.specs.Prelude.{◌≡◌, ℕ, ◌+◌, max, Bool, true, false, ◌&&◌, List, [], ◌∷◌, ◌++◌, Option}
 use Rattle.hs_forms.specs.Reading.{Form, begins}
 use Rattle.hs_forms.specs.Limits.{Within}
 use Rattle.hs_forms.specs.Answers.{Sort, Accepts, Fails}

@@ -1,9 +1,8 @@
 -- Where no operator stands.
-use Rattle.std.proofs.Common.{◌≡◌, ℕ, Bool, true, false, List, [], ◌∷◌, ◌++◌, length, refl, sym, ap, ◌∙◌, subst}
+use Rattle.std.proofs.Common.{◌≡◌, ℕ, Bool, true, false, List, [], ◌∷◌, ◌++◌, length, refl, sym, ap, ◌∙◌}
 use Rattle.std.proofs.Common.{true≢false, arith, inl, inr, ◌⊎◌}
-use Rattle.std.specs.Prelude.{Option, None, Some}
-use Rattle.hs_forms.specs.Reading.{SameStart, begins, Reads, Refuses}
-use Rattle.hs_forms.specs.Limits.{Within}
+use Rattle.std.specs.Prelude.{Option}
+use Rattle.hs_forms.specs.Reading.{SameStart, begins}
 use Rattle.hs_forms.specs.Answers.{Rejects}
 use Rattle.hs_forms.proofs.FormLemmas.{begins_append, begins_same}
 use Rattle.hs_forms.proofs.LimitLemmas.{within_zero}
@@ -75,12 +74,14 @@ module _ (limit : Option ℕ) where
     refuses = record {
       begun = (_, q.Con o.Colon, (refl, within_zero limit), refl);
       never = λ s other after same good quiet e.
-          true≢false (sym (begins_append starts_qop (qop_tokens other) after (qop_starts other)) ∙ ap (begins starts_qop) (sym e)
+          true≢false (sym (begins_append starts_qop (qop_tokens other) after (qop_starts other))
+          ∙ ap (begins starts_qop) (sym e)
           ∙ begins_same starts_qop ts s same ∙ ends);
     };
   }
 
-  pub quoted_none : (ts : Ts) → begins is_quotable ts ≡ false → Rejects (within qops limit) (t.Backquote ∷ ts) (length ts)
+  pub quoted_none : (ts : Ts) → begins is_quotable ts ≡ false → Rejects (within qops limit) (t.Backquote ∷ ts)
+      (length ts)
   quoted_none ts ends = record {
     before = t.Backquote ∷ [];
     bad = ts;
@@ -116,7 +117,8 @@ module _ (limit : Option ℕ) where
       second : (k x : Terminal) (s after : Ts) → k ∷ s ≡ x ∷ t.Backquote ∷ after → s ≡ t.Backquote ∷ after
       second k x s after e = cc
 
-      go : (s : Ts) (other : QOpTree) (after : Ts) → SameStart rest s → t.Backquote ∷ k ∷ s ≡ qop_tokens other ++ after →
+      go : (s : Ts) (other : QOpTree) (after : Ts) → SameStart rest s →
+          t.Backquote ∷ k ∷ s ≡ qop_tokens other ++ after →
           (begins is_backquote (qop_tokens other) ≡ false)
           ⊎ ((k : Terminal) × (is_quotable k ≡ true) × (qop_tokens other ≡ quoted k)) → ⊥
       go s other after same e (inl h) = first_quote (qop_tokens other) after (k ∷ s) h e (qop_starts other)

@@ -1,5 +1,5 @@
 -- Each refusal is a lemma of `QOpReturnLemmas`.
-use Rattle.std.proofs.Common.{◌∷◌, ◌∙◌, ap, subst, sym, refl}
+use Rattle.std.proofs.Common.{◌∷◌, ◌∙◌, ap, subst, sym}
 use Rattle.hs_forms.specs.Reading.{begins}
 use Rattle.hs_forms.specs.Answers.{Rejects}
 use Rattle.hs_tokens.specs.declared.terminal.Terminal.TheVariants.{Backquote}
