@@ -4,3 +4,4 @@ pub mod NameLemmas
 pub mod ElementLemmas
 pub mod ExportLemmas
 pub mod ImportLemmas
+pub mod HeadLemmas

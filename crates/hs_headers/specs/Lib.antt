@@ -2,3 +2,4 @@ pub mod Lists
 pub mod Names
 pub mod Elements
 pub mod Headers
+pub mod Heads

@@ -71,6 +71,11 @@ abbrev pub is_hiding_word : Terminal → Bool
 is_hiding_word (t.Var name) = bytes_eq name (codes "hiding")
 is_hiding_word _ = false
 
+-- the name with which a signature begins
+abbrev pub is_signature_word : Terminal → Bool
+is_signature_word (t.Var name) = bytes_eq name (codes "signature")
+is_signature_word _ = false
+
 -- the tokens that begin names
 abbrev pub starts_var : Terminal → Bool
 starts_var (t.Var name) = true

@@ -7,7 +7,7 @@ ghost use Rattle.hs_tokens.specs.declared.terminal.Terminal.TheVariants.{Comma, 
 ghost use Rattle.hs_tokens.specs.declared.terminal.Terminal.TheVariants as t;
 ghost use Rattle.hs_tokens.specs.declared.word.Word.TheVariants.{Import, Module, Where};
 ghost use Rattle.hs_modules.specs.Words.{has_dot, begins_with_colon};
-ghost use Rattle.hs_headers.specs.Names.{is_as_word, is_dots, is_hiding_word, is_import_word, is_module_word, is_own_con, is_own_con_sym, is_qualified_word, is_qvar, is_qvar_sym, is_var, is_where_word};
+ghost use Rattle.hs_headers.specs.Names.{is_as_word, is_dots, is_hiding_word, is_import_word, is_module_word, is_own_con, is_own_con_sym, is_qualified_word, is_qvar, is_qvar_sym, is_signature_word, is_var, is_where_word};
 ghost use Rattle.hs_headers.specs.Names.{is_left_paren, starts_export, starts_list, starts_name, starts_qvar, starts_var};
 
 use bp_base::Bytes;
@@ -245,4 +245,16 @@ pub fn begins_list(tokens: &[Terminal]) -> bool
     ensures { result ≡ begins starts_list tokens.now }
 {
     begins_left_paren(tokens) || after_hiding(tokens).is_some()
+}
+
+/// What stands after `signature`, which is a name elsewhere.
+pub fn after_signature(tokens: &[Terminal]) -> Option<&[Terminal]>
+    ensures { MatchOption result (begins is_signature_word tokens.now ≡ false) (λ rest. tokens.now ≡ Var (codes "signature") ∷ rest.now) }
+{
+    match tokens.split_first() {
+        Some((Terminal::Var(name), rest)) if name.as_bytes() == b"signature".as_slice() => {
+            Some(rest)
+        }
+        _ => None,
+    }
 }
