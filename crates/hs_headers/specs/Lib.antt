@@ -1,0 +1,5 @@
+pub mod Lists
+pub mod Names
+pub mod Elements
+pub mod Headers
+pub mod Heads

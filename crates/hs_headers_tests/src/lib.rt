@@ -1,0 +1,5 @@
+//! Tables of exports and imports with the place of their refusal.
+#![tactic(auto)]
+
+#[cfg(test)]
+mod header_tests;
