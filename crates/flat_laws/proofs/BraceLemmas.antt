@@ -194,11 +194,6 @@ blank_even : (b : Blank) (ms : Marks) → Even ms → Even (Mark.blank b ∷ ms)
 blank_even b ms h = record { even = λ depth rest good. h.even depth rest good }
 
 -- marks whose terminals are no braces, and make no block due
-sign_even : (x : Terminal) → Even (Mark.word x ∷ []) → (ms : Marks) → Even ms → Even (signed x ++ ms)
-sign_even x is ms h =
-    blank_even Blank.gap (Mark.word x ∷ space ∷ ms) (both_even (Mark.word x ∷ []) (space ∷ ms) is
-    (blank_even Blank.gap ms h))
-
 word_even : (x : Terminal) (ms : Marks) → Even (Mark.word x ∷ []) → Even ms → Even (Mark.word x ∷ ms)
 word_even x ms is h = both_even (Mark.word x ∷ []) ms is h
 

@@ -3,6 +3,7 @@ use Rattle.std.proofs.Common.{◌≡◌, ℕ, suc, zero, Bool, true, false, List
 use Rattle.std.proofs.Common.{subst, ◌∙◌, append_assoc}
 use Rattle.std.specs.Prelude.{not, ◌||◌, ◌-◌, codes, replicate}
 use Rattle.std.specs.List.{flat_map}
+use Rattle.std.proofs.lemmas.Bool.{not-true}
 use Rattle.bp_base.specs.declared.entity.Assoc.{Assoc}
 use Rattle.bp_base.specs.declared.entity.Fixity.{Fixity}
 use Rattle.bp_base.specs.declared.ty.OrigName.{OrigName}
@@ -126,18 +127,14 @@ behind_special : (x : Terminal) (ms : Marks) → (shape_of x).start ≡ s.Specia
 behind_special x [] is h = (refl, h)
 behind_special x (m ∷ ms) is h = (ap (λ st. joins st (start_at m)) is, h)
 
-no_symbol : (v : Bool) → not v ≡ true → v ≡ false
-no_symbol true e = cc
-no_symbol false e = refl
-
 behind_brace : (ms : Marks) → plain_first ms ≡ true → Apart ms → Apart (Mark.word t.LeftBrace ∷ ms)
 behind_brace [] e h = (refl, h)
-behind_brace (m ∷ ms) e h = (no_symbol (of_symbol (start_at m)) e, h)
+behind_brace (m ∷ ms) e h = (not-true (of_symbol (start_at m)) e, h)
 
 behind_symbol : (x : Terminal) (ms : Marks) → (shape_of x).start ≡ s.Symbol → plain_first ms ≡ true → Apart ms
     → Apart (Mark.word x ∷ ms)
 behind_symbol x [] is e h = (refl, h)
-behind_symbol x (m ∷ ms) is e h = (ap (λ st. joins st (start_at m)) is ∙ no_symbol (of_symbol (start_at m)) e, h)
+behind_symbol x (m ∷ ms) is e h = (ap (λ st. joins st (start_at m)) is ∙ not-true (of_symbol (start_at m)) e, h)
 
 neutral_append : (xs ys : Marks) → neutral_first xs ≡ true → neutral_first ys ≡ true → neutral_first (xs ++ ys) ≡ true
 neutral_append [] ys e g = g

@@ -6,7 +6,7 @@ use Rattle.std.specs.Prelude.{not, ◌&&◌, ◌||◌, ◌==◌, nat_le, nat_lt}
 use Rattle.std.specs.List.{prefix_len, fold}
 use Rattle.std.specs.Str.{is_utf8, IsAscii}
 use Rattle.std.specs.Fmt.{decimal}
-use Rattle.std.proofs.lemmas.Bool.{cases_Bool, and_parts, or_cases, eqb-true, ltb-true, lt-ltb}
+use Rattle.std.proofs.lemmas.Bool.{cases_Bool, and_parts, or_cases, eqb-true, ltb-true, lt-ltb, or_parts}
 use Rattle.std.proofs.lemmas.Bool.Decides.{nat_tests}
 use Rattle.std.proofs.lemmas.List.{take_at, drop_at, length-append}
 use Rattle.std.proofs.lemmas.List.Sums.{fold-append}
@@ -196,14 +196,6 @@ both_pass v w tail e f =
     ∙ more_twice (length v) (length w) (string_len 0 tail)
     ∙ ap (λ n. more_by n (string_len 0 tail)) (sym (length-append v w))
 
-record Plain (quote code : ℕ) : Type 0 where
-  quote_no : code == quote ≡ false
-  slash_no : code == 92 ≡ false
-
-either_false : (a b : Bool) → a || b ≡ false → (a ≡ false) × (b ≡ false)
-either_false true b e = cc
-either_false false b e = (refl, e)
-
 char_passes : (shown mark : Bool) (code : ℕ) (tail : List ℕ) → from_to 32 126 code ≡ shown
     → (code == 34 || code == 92) ≡ mark → code ≤ 1114111 →
     (shown ≡ false → begins (is_in c.Digit) tail ≡ false) → Passes (char_by shown mark code) tail
@@ -214,7 +206,7 @@ char_passes true true code tail e f h apart = elim (or_cases (code == 34) (code 
       (item_passes 92 (92 ∷ []) tail refl refl)
 ]
 char_passes true false code tail e f h apart =
-    let p = either_false (code == 34) (code == 92) f in
+    let p = or_parts (code == 34) (code == 92) f in
     item_passes code [] tail p.0
     (ap (λ v. if v then string_escape_len tail else only (is_plain code) 0) p.1
     ∙ ap (λ v. only (v || nat_le 128 code) 0) e)
@@ -330,7 +322,7 @@ char_ends true true code rest e f h = elim (or_cases (code == 39) (code == 92) f
   | inr is ↦ subst (λ q. char_len (92 ∷ q ∷ 39 ∷ rest) ≡ Some 3) (sym (eqb-true code 92 is)) refl
 ]
 char_ends true false code rest e f h =
-    let p = either_false (code == 39) (code == 92) f in
+    let p = or_parts (code == 39) (code == 92) f in
     ap (λ v. closed_behind (39 ∷ rest) (if v then escape_len (39 ∷ rest) else character_len code (39 ∷ rest))) p.1
     ∙ ap (λ v. closed_behind (39 ∷ rest) (if v then Some (prefix_len (is_in c.Continuation) (39 ∷ rest))
     else only (from_to 32 126 code && not (code == 39)) 0)) (low code e)

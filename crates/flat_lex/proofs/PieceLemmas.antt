@@ -4,7 +4,7 @@ use Rattle.std.proofs.Common.{drop, refl, sym, ap, ◌∙◌, subst, arith, Opti
 use Rattle.std.specs.Prelude.{not, ◌&&◌, ◌||◌, ◌==◌, option_map}
 use Rattle.std.specs.List.{prefix_len}
 use Rattle.std.specs.Str.{is_utf8}
-use Rattle.std.proofs.lemmas.Bool.{cases_Bool, and_parts}
+use Rattle.std.proofs.lemmas.Bool.{cases_Bool, and_parts, or_parts}
 use Rattle.std.proofs.lemmas.Bool.Decides.{nat_tests}
 use Rattle.std.proofs.lemmas.List.{take_at, drop_at, take-append-drop, length-append}
 use Rattle.hs_tokens.specs.declared.token.TokenKind.TheVariants as t
@@ -157,10 +157,6 @@ symbol_piece b bs kind at symbols dashed is ok = piece_by b bs s.Symbol kind at 
     ∙ ap (λ v. only v (symbol_kind (b ∷ (bs ++ d ∷ x)))) (all_more (is_in c.Symbol) bs d x apart))
 
 -- a name that begins with a capital, qualified or not
-either_false : (a b : Bool) → a || b ≡ false → (a ≡ false) × (b ≡ false)
-either_false true b e = cc
-either_false false b e = (refl, e)
-
 last_rest : (start : Start) (w bs rest : List ℕ) → begins (is_in c.Name) rest ≡ false
     → begins (is_in c.Symbol) rest ≡ false → last_part start w bs rest ≡ last_part start w bs []
 last_rest s.Small w bs rest n y = ap (λ v. only ((all (is_in c.Name) bs && not v) && is_plain_word w) (k.Token t.Var)) n
@@ -243,14 +239,14 @@ capital_stop true (b ∷ bs) d x y n e =
 neither : (rest : List ℕ) → begins (goes_on s.Large) rest ≡ false → (begins (is_in c.Name) rest ≡ false) ×
     (begins (is_in c.Symbol) rest ≡ false)
 neither [] e = (refl, refl)
-neither (b ∷ r) e = either_false (is_in c.Name b) (is_in c.Symbol b) e
+neither (b ∷ r) e = or_parts (is_in c.Name b) (is_in c.Symbol b) e
 
 pub large_piece : (b : ℕ) (bs : List ℕ) (kind : Kind) → start_of b ≡ s.Large → capital false bs [] ≡ Some kind
     → is_sound kind ≡ true →
     IsPiece (record { start = s.Large; kind = kind; text = b ∷ bs })
 large_piece b bs kind at is ok = piece_by b bs s.Large kind at ok
     (λ rest apart. let h = neither rest apart in capital_rest false bs rest h.0 h.1 ∙ is)
-    (λ d x y apart. let h = either_false (is_in c.Name d) (is_in c.Symbol d) apart in
+    (λ d x y apart. let h = or_parts (is_in c.Name d) (is_in c.Symbol d) apart in
     capital_stop false bs d x y h.0 h.1)
 
 -- a decimal number
@@ -325,7 +321,7 @@ number_piece b bs kind at digits is ok = piece_by b bs s.Digit kind at ok
     ap (option_map (number_kind (b ∷ bs))) ((λ i. if b == 48 then zero_all bs digits i
     else decimal_all bs digits i) ∙ one_way (b == 48) (Some f.Decimal)) ∙ ap Some is)
     (λ d x y apart.
-    let h = either_false (is_in c.Name d) (is_in c.Symbol d) apart in
+    let h = or_parts (is_in c.Name d) (is_in c.Symbol d) apart in
     let stop = no_number d h.0 h.1 in
     ap (option_map (number_kind (b ∷ (bs ++ d ∷ x)))) ((λ i. if b == 48 then zero_stop bs d x digits stop i
     else decimal_stop bs d x digits stop i) ∙ one_way (b == 48) None))
