@@ -8,6 +8,7 @@ use Rattle.hs_expressions.proofs.signed.read_signed.Goals as goal
 pub returns-in_err-read : goal.returns-in_err-read
 returns-in_err-read g c =
     let p = err_from_is_err_and c.from_residual.result c.from_residual.ensures.1 in
-    rw (p.1, p.2) (signed_fails c.args.limit c.lower.result c.args.deep c.args.used c.count_sign.result c.args.tokens.now
+    rw (p.1, p.2) (signed_fails c.args.limit c.lower.result c.args.deep c.args.used c.count_sign.result
+    c.args.tokens.now
     c.after_sign.result.now _ (c.count_sign.ensures ∙ ap sign c.begins_minus-negated.ensures) c.after_sign.ensures
     (c.allows.ensures.0 c.if-not-allows.false) c.lower.ensures (c.requires.says _ _ _ c.in_err-read.ensures))
