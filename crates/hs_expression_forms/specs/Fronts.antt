@@ -1,6 +1,5 @@
 -- What stands first between round brackets: an expression, or the chain and the operator of a left section (Haskell
--- 2010
--- Report, section 3.5).
+-- 2010 Report, section 3.5).
 use Rattle.std.specs.Prelude.{ℕ, max, Bool, true, false, not, ◌&&◌, ◌||◌, List, [], ◌∷◌, ◌++◌, length, flat_map, map}
 use Rattle.std.specs.Prelude.{Some, ◌⊎◌, replicate, nat_lt}
 use Rattle.std.proofs.Common.{inl, inr}

@@ -1,6 +1,5 @@
 -- What the reader of a signed operand answers, behind so many operators and signs, where the deepest operand before
--- it is
--- so deep.
+-- it is so deep.
 use Rattle.std.specs.Prelude.{ℕ, List, Option, Result, Ok, Err}
 use Rattle.hs_forms.specs.declared.fault.Fault.{Fault}
 use Rattle.hs_tokens.specs.declared.terminal.Terminal.{Terminal}
