@@ -32,9 +32,12 @@ use Rattle.hs_expression_forms.specs.Trees.{Makes, Embeds, behind_token, ended}
 use Rattle.hs_expression_forms.specs.Expressions.{aexps, is_aexp, is_exp, exp_parts, starts_operand, starts_exp, few}
 use Rattle.hs_expression_forms.specs.Fronts.{Inside, Bunch, bunch_of, bunches, insides, right_sections, fixed}
 use Rattle.hs_expression_forms.specs.Fronts.{tuple_names}
-use Rattle.hs_expression_forms.proofs.AExpLayerLemmas.{Parts, var_spelled, var_is, var_deep, con_spelled, con_is, con_deep}
-use Rattle.hs_expression_forms.proofs.AExpLayerLemmas.{literal_spelled, literal_is, literal_deep, parts_spelled, parts_is}
-use Rattle.hs_expression_forms.proofs.AExpLayerLemmas.{parts_deep, list_spelled, list_is, list_deep, left_spelled, left_is}
+use Rattle.hs_expression_forms.proofs.AExpLayerLemmas.{Parts, var_spelled, var_is, var_deep, con_spelled}
+use Rattle.hs_expression_forms.proofs.AExpLayerLemmas.{con_is, con_deep}
+use Rattle.hs_expression_forms.proofs.AExpLayerLemmas.{literal_spelled, literal_is, literal_deep}
+use Rattle.hs_expression_forms.proofs.AExpLayerLemmas.{parts_spelled, parts_is}
+use Rattle.hs_expression_forms.proofs.AExpLayerLemmas.{parts_deep, list_spelled, list_is, list_deep}
+use Rattle.hs_expression_forms.proofs.AExpLayerLemmas.{left_spelled, left_is}
 use Rattle.hs_expression_forms.proofs.AExpLayerLemmas.{left_deep, right_spelled, right_is, right_deep}
 use Rattle.hs_expression_forms.proofs.OperandLemmas.{operand_starts}
 use Rattle.hs_expression_forms.proofs.LinkLayerLemmas.{signed_spelled, infix_spelled, negated_of, operand_of}

@@ -30,7 +30,8 @@ use Rattle.hs_modules.proofs.PartDepthLemmas.{type_depth_is}
 use Rattle.hs_expression_forms.specs.declared.front.Front.{Front}
 use Rattle.hs_expression_forms.specs.declared.front.Front.TheVariants as fr
 use Rattle.hs_expression_forms.specs.Trees.{within, Took, Failed, Embeds}
-use Rattle.hs_expression_forms.specs.Expressions.{is_infix, depth_of_infix, is_exp, depth_of_exp, goes_on, exps, infixes}
+use Rattle.hs_expression_forms.specs.Expressions.{is_infix, depth_of_infix, is_exp, depth_of_exp, goes_on}
+use Rattle.hs_expression_forms.specs.Expressions.{exps, infixes}
 use Rattle.hs_expression_forms.specs.Expressions.{types, is_double_colon, exp_goes_on, infix_goes_on, starts_aexp}
 use Rattle.hs_expression_forms.specs.Expressions.{starts_qop}
 use Rattle.hs_expression_forms.specs.Links.{Links, links}

@@ -14,7 +14,8 @@ use Rattle.hs_modules.specs.Tokens.{spelling_infix}
 use Rattle.hs_modules.specs.declared.names.QOpTree.{QOpTree}
 use Rattle.hs_modules.specs.declared.names.QOpTree.TheVariants as q
 use Rattle.hs_modules.specs.declared.expressions.OperandTree.{OperandTree}
-use Rattle.hs_modules.specs.declared.expressions.InfixTree.{InfixTree, out-InfixTree, roll-InfixTree, roll-out-InfixTree}
+use Rattle.hs_modules.specs.declared.expressions.InfixTree.{InfixTree, out-InfixTree}
+use Rattle.hs_modules.specs.declared.expressions.InfixTree.{roll-InfixTree, roll-out-InfixTree}
 use Rattle.hs_modules.specs.declared.expressions.OpOperand.{OpOperand, out-OpOperand, roll-OpOperand}
 use Rattle.hs_modules.specs.declared.expressions.OpOperand.{roll-out-OpOperand}
 use Rattle.hs_modules.specs.declared.expressions.SignedOperand.{SignedOperand, roll-SignedOperand}

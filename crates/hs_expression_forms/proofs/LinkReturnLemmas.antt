@@ -30,7 +30,8 @@ use Rattle.hs_expression_forms.specs.Trees.{within, Took}
 use Rattle.hs_expression_forms.specs.Expressions.{depth_of_operand, starts_operand, starts_exp, starts_qop}
 use Rattle.hs_expression_forms.specs.Expressions.{depth_of_infix, operands}
 use Rattle.hs_expression_forms.specs.Links.{maybe_tokens, maybe_open, maybe_deep, Piece}
-use Rattle.hs_expression_forms.specs.Links.{piece_tokens, piece_deep, last_maybe, pieces_form, pieces_formed, Placed, first_pieces}
+use Rattle.hs_expression_forms.specs.Links.{piece_tokens, piece_deep, last_maybe, pieces_form, pieces_formed}
+use Rattle.hs_expression_forms.specs.Links.{Placed, first_pieces}
 use Rattle.hs_expression_forms.specs.Links.{Links, links_head, links, link_of, sign_of, head_piece}
 use Rattle.hs_expression_forms.specs.Links.{pieces_of_link}
 use Rattle.hs_expression_forms.proofs.PieceLemmas.{pieces_more, last_more}

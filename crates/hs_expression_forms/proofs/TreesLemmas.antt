@@ -14,7 +14,8 @@ use Rattle.hs_forms.proofs.FormLemmas.{begins_same, same_start_append}
 use Rattle.hs_forms.proofs.StateLemmas.{fails_after}
 use Rattle.hs_forms.proofs.LimitLemmas.{within_less, within_lowered, within_raised, within_max, within_zero, and_left}
 use Rattle.hs_forms.proofs.LimitLemmas.{and_right}
-use Rattle.hs_expression_forms.specs.Trees.{Trees, within, Took, Failed, behind_token, ended, row, Follows, Makes, Embeds}
+use Rattle.hs_expression_forms.specs.Trees.{Trees, within, Took, Failed, behind_token, ended, row, Follows}
+use Rattle.hs_expression_forms.specs.Trees.{Makes, Embeds}
 
 -- forms with the same tokens and continuations whose trees are the same
 pub reads_same : {K T : Type 0} (one two : Form K T) → ((x : T) → two.tokens x ≡ one.tokens x) →

@@ -1,5 +1,5 @@
--- What stands first between round brackets: an expression, or the chain and the operator of a left section (Haskell 2010
--- Report, section 3.5).
+-- What stands first between round brackets: an expression, or the chain and the operator of a left section (Haskell
+-- 2010 Report, section 3.5).
 use Rattle.std.specs.Prelude.{ℕ, max, Bool, true, false, not, ◌&&◌, ◌||◌, List, [], ◌∷◌, ◌++◌, length, flat_map, map}
 use Rattle.std.specs.Prelude.{Some, ◌⊎◌, replicate, nat_lt}
 use Rattle.std.proofs.Common.{inl, inr}
@@ -17,7 +17,8 @@ use Rattle.hs_modules.specs.declared.expressions.InfixTree.{InfixTree}
 use Rattle.hs_expression_forms.specs.declared.front.Front.{Front}
 use Rattle.hs_expression_forms.specs.declared.front.Front.TheVariants as fr
 use Rattle.hs_expression_forms.specs.Trees.{Trees, ended, row}
-use Rattle.hs_expression_forms.specs.Expressions.{is_exp, depth_of_exp, is_infix, depth_of_infix, exp_goes_on, few, exps}
+use Rattle.hs_expression_forms.specs.Expressions.{is_exp, depth_of_exp, is_infix, depth_of_infix, exp_goes_on}
+use Rattle.hs_expression_forms.specs.Expressions.{few, exps}
 use Rattle.hs_expression_forms.specs.Expressions.{infixes}
 use Rattle.hs_expression_forms.specs.Expressions.{starts_operand, starts_qop, last_part}
 

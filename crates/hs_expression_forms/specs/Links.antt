@@ -1,5 +1,5 @@
--- A chain of operators piece by piece (Haskell 2010 Report, section 3.4). Each operator and each sign begins a piece, so
--- the number of the pieces is what the chain adds to its deepest operand: `- a + - b` are the pieces `- a`, `+`, `- b`.
+-- A chain of operators piece by piece (Haskell 2010 Report, section 3.4). Each operator and each sign begins a piece,
+-- so the number of the pieces is what the chain adds to its deepest operand: `- a + - b` are the pieces `- a`, `+`, `- b`.
 use Rattle.std.specs.Prelude.{◌≡◌, ℕ, ◌+◌, Bool, true, false, not, ◌&&◌, ◌||◌, List, [], ◌∷◌, ◌++◌, flat_map}
 use Rattle.std.specs.Prelude.{map, Option, Some, None}
 use Rattle.hs_forms.specs.Reading.{Form}

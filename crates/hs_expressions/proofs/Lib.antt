@@ -1,1 +1,2 @@
 pub mod QOpReturnLemmas
+pub mod SignedLemmas

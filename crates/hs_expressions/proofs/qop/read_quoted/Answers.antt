@@ -22,7 +22,8 @@ returns-then-not-is_quotable c = λ limit.
 pub returns-in_default-after_backquote : goal.returns-in_default-after_backquote
 returns-in_default-after_backquote c = λ limit.
     quoted_open limit c.in-Some.name.now c.args.tokens.now c.in-Some.rest.now
-    (sym c.is_quotable.ensures ∙ c.if-not-is_quotable.false) c.in-Some.ensures.cases.0 c.in_default-after_backquote.ensures
+    (sym c.is_quotable.ensures ∙ c.if-not-is_quotable.false) c.in-Some.ensures.cases.0
+    c.in_default-after_backquote.ensures
 
 pub returns-in_default-name : goal.returns-in_default-name
 returns-in_default-name c = λ limit.
