@@ -127,10 +127,24 @@ from-name name (x ∷ is) e a =
       | inl h ↦
           let i = among-image (equation x.needs) e (provisions_of x.provides name) h in
           let k = filter-among (λ (y : Provision). bytes_eq y.name name) i.0 x.provides i.1 in
-          record { source = x; listed = inl refl; provision = i.0; provided = k.0; named = same_texts i.0.name name k.1; states = i.2 }
+          record {
+            source = x;
+            listed = inl refl;
+            provision = i.0;
+            provided = k.0;
+            named = same_texts i.0.name name k.1;
+            states = i.2;
+          }
       | inr h ↦
           let r = from-name name is e h in
-          record { source = r.source; listed = inr r.listed; provision = r.provision; provided = r.provided; named = r.named; states = r.states }
+          record {
+            source = r.source;
+            listed = inr r.listed;
+            provision = r.provision;
+            provided = r.provided;
+            named = r.named;
+            states = r.states;
+          }
     ]
 
 pub among-equations : (ns : List Text) (is : List OpenInclude) (i : OpenInclude) (p : Provision) → Among p.name ns

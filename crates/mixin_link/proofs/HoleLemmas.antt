@@ -73,7 +73,8 @@ module _ (f : List Fill) where
   keeps-module : (u : OfUnit) (m : Text) → EachFill Both (out-Unit u).fills → Both (Module u m)
   keeps-module u m both = let all = fills-kept (out-Unit u).fills both in (
     (λ e. fills-EachHole (λ h. at_hole h f ≡ Hole h) u m (all.0 (sym (fills-filled u f)
-        ∙ ap (λ (v : OfUnit). (out-Unit v).fills) (Module-unit (filled_unit u f) u m m (sym (filled-Module u m f) ∙ e))))),
+        ∙ ap (λ (v : OfUnit). (out-Unit v).fills)
+        (Module-unit (filled_unit u f) u m m (sym (filled-Module u m f) ∙ e))))),
     (λ k. filled-Module u m f ∙ ap (λ (v : OfUnit). Module v m) (unit-same (filled_unit u f) u (component-filled u f)
         (fills-filled u f ∙ all.1 (EachHole-fills (λ h. at_hole h f ≡ Hole h) u m k)))),
   )
@@ -94,7 +95,8 @@ module _ (f : List Fill) (Q : Text → Type 0) (each : (x : Fill) → Among x f 
     where
       by : (o : Option Ident) → found n f ≡ o → IsSome o → EachHole Q (unwrap_or (found n f) (Hole n))
       by None e s = cc
-      by (Some i) e s = let x = found-fill n f i e in subst (EachHole Q) (x.2 ∙ sym (ap (λ o. unwrap_or o (Hole n)) e)) (each x.0 x.1)
+      by (Some i) e s = let x = found-fill n f i e in
+          subst (EachHole Q) (x.2 ∙ sym (ap (λ o. unwrap_or o (Hole n)) e)) (each x.0 x.1)
 
   held-fills : (gs : List Fill) → EachFill Held gs → EachFill (EachHole (HasFill f)) gs
       → EachFill (EachHole Q) (composed gs f)
@@ -103,7 +105,8 @@ module _ (f : List Fill) (Q : Text → Type 0) (each : (x : Fill) → Among x f 
 
   held-module : (u : OfUnit) (m : Text) → EachFill Held (out-Unit u).fills → Held (Module u m)
   held-module u m h k = subst (EachHole Q) (sym (filled-Module u m f)) (fills-EachHole Q (filled_unit u f) m
-      (subst (EachFill (EachHole Q)) (sym (fills-filled u f)) (held-fills (out-Unit u).fills h (EachHole-fills (HasFill f) u m k))))
+      (subst (EachFill (EachHole Q)) (sym (fills-filled u f)) (held-fills (out-Unit u).fills h
+      (EachHole-fills (HasFill f) u m k))))
 
   pub holes-of-filled : (i : Ident) → EachHole (HasFill f) i → EachHole Q (filled i f)
   holes-of-filled i = ident-induction Held held-hole held-module i

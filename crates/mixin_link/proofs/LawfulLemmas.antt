@@ -34,7 +34,8 @@ use Rattle.mixin_link.proofs.HoleLemmas.{found-fill}
 -- An identity has no hole after fills without holes where, and only where, each of its holes has a fill.
 module _ (f : List Fill) (each : (x : Fill) → Among x f → closed x.ident ≡ true) where
   abbrev Closes : Ident → Type 0
-  Closes i = (closed (filled i f) ≡ true → EachHole (HasFill f) i) × (EachHole (HasFill f) i → closed (filled i f) ≡ true)
+  Closes i = (closed (filled i f) ≡ true → EachHole (HasFill f) i)
+      × (EachHole (HasFill f) i → closed (filled i f) ≡ true)
 
   closes-hole : (n : Text) → Closes (Hole n)
   closes-hole n = by (found n f) refl
@@ -130,7 +131,8 @@ all-held hs (x ∷ ps) =
     at p (inr a) k r = r p a
 
 abbrev AreHeld : List Summary → Type 0
-AreHeld ss = (s : Summary) → Among s ss → (p : Provision) → Among p s.provisions → EachHole (λ h. Among h s.holes) p.ident
+AreHeld ss = (s : Summary) → Among s ss → (p : Provision) → Among p s.provisions
+    → EachHole (λ h. Among h s.holes) p.ident
 
 summaries-held : (ss : List Summary) → (summaries_held ss ≡ true → AreHeld ss) × (AreHeld ss → summaries_held ss ≡ true)
 summaries-held [] = ((λ k s a. absurd a), (λ k. refl))

@@ -6,3 +6,4 @@ pub mod UnitLemmas
 pub mod LinkLemmas
 pub mod LawfulLemmas
 pub mod NextLemmas
+pub mod WrittenLemmas

@@ -20,7 +20,8 @@ use Rattle.mixin_link.specs.declared.summary.Summary.{Summary}
 use Rattle.mixin_link.specs.Summaries.{AreLawful}
 use Rattle.mixin_link.specs.Equations.{equations_of, AreOpen}
 use Rattle.mixin_link.specs.Opening.{first_refusal, open_in}
-use Rattle.mixin_link.specs.Answers.{required_names, own_modules, first_taken, linking_under, open_includes, required_by}
+use Rattle.mixin_link.specs.Answers.{required_names, own_modules, first_taken, linking_under, open_includes}
+use Rattle.mixin_link.specs.Answers.{required_by}
 use Rattle.mixin_link.specs.Answers.{IsLinked, Fits, IsLinkingOf, IsUnlinked, IsRefusal}
 use Rattle.mixin_link.proofs.PrincipalLemmas.{answers_are_principal}
 use Rattle.mixin_link.proofs.NameLemmas.{entries-open}
@@ -43,7 +44,8 @@ linked-by required is es f l o e a occ w = record {
 pub open-given : (ss : List Summary) (ms : List Mixin) (is : List OpenInclude) (signatures required : List Text)
     → AreLawful ss → is ≡ map (open_in ss) ms → required ≡ required_names signatures is → AreOpen required is
 open-given ss ms is signatures required l e r = subst (λ (x : List Text). AreOpen x is) (sym r)
-    (subst (λ (x : List OpenInclude). AreOpen (required_names signatures x) x) (sym e) (entries-open ss ms signatures l))
+    (subst (λ (x : List OpenInclude). AreOpen (required_names signatures x) x) (sym e)
+    (entries-open ss ms signatures l))
 
 pub lawful-given : (ss : List Summary) (ms : List Mixin) (is : List OpenInclude) (required : List Text) → AreLawful ss
     → is ≡ map (open_in ss) ms → IsLawful (equations_of required is)

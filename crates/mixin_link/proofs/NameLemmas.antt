@@ -1,5 +1,6 @@
 -- Required names and the sources of includes.
-use Rattle.std.proofs.Common.{◌≡◌, ◌⊎◌, inl, inr, true, false, Bool, List, [], ◌∷◌, ◌++◌, map, refl, sym, ap, ◌∙◌, subst}
+use Rattle.std.proofs.Common.{◌≡◌, ◌⊎◌, inl, inr, true, false, Bool, List, [], ◌∷◌, ◌++◌, map, refl, sym, ap}
+use Rattle.std.proofs.Common.{◌∙◌, subst}
 use Rattle.std.specs.Prelude.{Option, Some, None, cond}
 use Rattle.std.specs.List.{flat_map}
 use Rattle.std.specs.BTreeSet.{insert_key}
@@ -210,7 +211,8 @@ entries-open ss ms signatures l = record {
   where
     at : (m : Mixin) (o : Option Summary) → found_summary m.dep ss ≡ o → (p : Provision)
         → Among p (provided m.provides (exposed_by o))
-        → EachHole (λ h. Among h (map (λ (r : Rename). r.from) (all_linked (linkage_name m.needs) (holes_by o)))) p.ident
+        → EachHole (λ h. Among h (map (λ (r : Rename). r.from) (all_linked (linkage_name m.needs) (holes_by o))))
+        p.ident
     at m None e p b = absurd ((provided-from m.provides [] p b).there)
     at m (Some s) e p b = λ h k.
         let x = provided-from m.provides s.provisions p b in
@@ -221,5 +223,6 @@ entries-open ss ms signatures l = record {
         → EachHole (λ h. Among h (map (λ (r : Rename). r.from) i.needs)) p.ident
     each i a p b =
         let m = among-image (open_in ss) i ms a in
-        subst (λ (j : OpenInclude). Among p j.provides → EachHole (λ h. Among h (map (λ (r : Rename). r.from) j.needs)) p.ident)
+        subst (λ (j : OpenInclude). Among p j.provides
+        → EachHole (λ h. Among h (map (λ (r : Rename). r.from) j.needs)) p.ident)
         m.2 (at m.0 (found_summary m.0.dep ss) refl p) b

@@ -95,7 +95,8 @@ module _ (c : Component) (ss : List Summary) (l : Linking) (lawful : AreLawful s
   holes-are = ap (λ (x : Linking). x.holes) linked.written
 
   holes-rise : Rise l.holes
-  holes-rise = subst Rise (sym holes-are) (filter-rise (λ n. is_hole n (s n)) required (names_are_ordered (c.signatures ++ linkage_names is)).0)
+  holes-rise = subst Rise (sym holes-are) (filter-rise (λ n. is_hole n (s n)) required
+      (names_are_ordered (c.signatures ++ linkage_names is)).0)
 
   -- each hole of what is assigned is one of the linking
   assigned-held : (n : Text) → Among n required → EachHole (λ h. Among h l.holes) (s n)
@@ -221,8 +222,8 @@ module _ (c : Component) (ss : List Summary) (l : Linking) (lawful : AreLawful s
 
     held : (x : Summary) → Among x (own ∷ ss) → (p : Provision) → Among p x.provisions
         → EachHole (λ h. Among h x.holes) p.ident
-    held x (inl e) = subst (λ (y : Summary). (p : Provision) → Among p y.provisions → EachHole (λ h. Among h y.holes) p.ident)
-        e (λ p a. provided-held p (each p a))
+    held x (inl e) = subst (λ (y : Summary). (p : Provision) → Among p y.provisions
+        → EachHole (λ h. Among h y.holes) p.ident) e (λ p a. provided-held p (each p a))
     held x (inr a) = lawful.held x a
 
     next : AreLawful (own ∷ ss)

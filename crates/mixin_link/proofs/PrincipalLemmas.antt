@@ -57,7 +57,8 @@ hole-required required is o h a =
     let r = equation-from required is t.0 t.1 in
     at r.0 r.1 t.0 r.2 t.2
   where
-    right : (n : Text) → (e : Equation) → (w : From is n e) → Among (Hole h) (terms_of (equation w.source.needs w.provision).right)
+    right : (n : Text) (e : Equation) (w : From is n e)
+        → Among (Hole h) (terms_of (equation w.source.needs w.provision).right)
         → Among h required
     right n e w m = holes-of-filled (fills_under Hole w.source.needs) (λ k. Among k required)
         (each-under required w.source.needs (o.needed w.source w.listed)) w.provision.ident
@@ -69,7 +70,8 @@ hole-required required is o h a =
     at n r e w (inl m) =
         let l : Among (Hole h) (terms_of (Hole w.provision.name)) =
         subst (λ (y : Equation). Among (Hole h) (terms_of y.left)) (sym w.states) m in
-        subst (λ (k : Text). Among k required) (sym w.named ∙ same_texts w.provision.name h (term-hole h (Hole w.provision.name) l)) r
+        subst (λ (k : Text). Among k required) (sym w.named
+        ∙ same_texts w.provision.name h (term-hole h (Hole w.provision.name) l)) r
     at n r e w (inr m) = right n e w (subst (λ (y : Equation). Among (Hole h) (terms_of y.right)) (sym w.states) m)
 
 -- ---- answers are principal
@@ -94,7 +96,8 @@ answers_are_principal required is f o a occ = record {
     by n h r None e k = subst (λ (y : Text). Among y required) (same_texts n h k) r
     by n h r (Some i) e k =
         let x = found-fill n f i e in
-        hole-required required is o h (occ.parts x.0 x.1 (Hole h) (subst (λ (y : Ident). Among (Hole h) (terms_of y)) (sym x.2)
+        hole-required required is o h (occ.parts x.0 x.1 (Hole h)
+        (subst (λ (y : Ident). Among (Hole h) (terms_of y)) (sym x.2)
         (hole-term h i k)))
 
     there : (n h : Text) → Among n required → has_hole h (at_hole n f) ≡ true → Among h required

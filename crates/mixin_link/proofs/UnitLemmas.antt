@@ -174,7 +174,8 @@ no-units (r ∷ rs) P x (inr a) = no-units rs P x a
 
 -- a unit of equations occurs in a side of one
 unit-side : (P : OfUnit → Type 0) (es : List Equation)
-    → ((e : Equation) → Among e es → EachUnit P e.left × EachUnit P e.right) → (u : OfUnit) → Among u (units_in es) → P u
+    → ((e : Equation) → Among e es → EachUnit P e.left × EachUnit P e.right) → (u : OfUnit)
+    → Among u (units_in es) → P u
 unit-side P [] k u a = absurd a
 unit-side P (x ∷ es) k u a = elim (among-either u (units_of x.left) (units_of x.right ++ units_in es) a) [
   | inl h ↦ (k x (inl refl)).0 u h

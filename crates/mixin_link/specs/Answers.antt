@@ -107,7 +107,8 @@ pub record IsLike (es : List Equation) (u : OfUnit) : Type 0 where
   pub component : (out-Unit source).component ≡ (out-Unit u).component
   pub holes : holes_of source ≡ holes_of u
 
--- the principal linking, written down; the units in what it assigns are those of the equations, perhaps filled otherwise
+-- the principal linking, written down; the units in what it assigns are those of the equations, perhaps with other
+-- fills
 pub record IsLinked (required : List Text) (is : List OpenInclude) (l : Linking) : Type 0 where
   pub assigns : Text → Ident
   pub principal : IsPrincipal required is assigns

@@ -1,7 +1,10 @@
 //! Linkings written down.
-ghost use Rattle.std.specs.Prelude.{◌≡◌, IfOk, map};
-ghost use Rattle.unit_identity.specs.Fill.{at_hole};
+ghost use Rattle.std.specs.Prelude.{◌≡◌, List, ℕ, IfOk, map};
+ghost use Rattle.std.specs.HashMap.{get};
+ghost use Rattle.std.specs.Str.{bytes_eq};
+ghost use Rattle.unit_identity.specs.Fill.{at_hole, found};
 ghost use Rattle.mixin_link.specs.Linkings.{fills_under};
+ghost use Rattle.mixin_link.specs.Tables.{ident_in};
 ghost use Rattle.mixin_link.specs.Answers.{is_hole, holes_left, assigned, provision_in, include_under, linking_under};
 
 use crate::open::{OpenInclude, OpenIncludes};
@@ -11,57 +14,91 @@ use bp_base::{
 };
 use sqlite_items::Items;
 use std::alloc::{AllocError, Global};
+use std::collections::HashMap;
 use unit_identity::fill;
 
-/// The identity of a name.
-fn identity_of(alloc: Global, fills: &Fills, name: &Name) -> Result<Ident, AllocError>
-    ensures { IfOk result (λ i. i ≡ at_hole name.now fills.now) }
+/// What fills put at holes, by the holes: the first fill of each.
+fn idents_by_hole(alloc: Global, fills: &[Fill]) -> Result<HashMap<Name, Ident>, AllocError>
+    ensures { IfOk result (λ table. (q : List ℕ) → get bytes_eq table q ≡ found q fills.now) }
 {
-    let hole = Ident::Hole {
-        name: name.copied(alloc)?,
-    };
-    fill(alloc, &hole, fills)
+    let mut table = HashMap::new(alloc);
+    let mut place = fills.len();
+    while place > 0 {
+        place -= 1;
+        let hole = fills[place].hole.copied(alloc)?;
+        let ident = fills[place].ident.copied(alloc)?;
+        table.insert(hole, ident)?;
+    }
+    Ok(table)
+}
+
+/// The identity of a name.
+fn identity_of(
+    alloc: Global,
+    table: &HashMap<Name, Ident>,
+    name: &Name,
+) -> Result<Ident, AllocError>
+    ensures { IfOk result (λ i. i ≡ ident_in table.now name.now) }
+{
+    match table.get(name) {
+        Some(found) => found.copied(alloc),
+        None => Ok(Ident::Hole {
+            name: name.copied(alloc)?,
+        }),
+    }
 }
 
 /// A name with its identity.
-fn assigned(alloc: Global, fills: &Fills, name: &Name) -> Result<Provision, AllocError>
-    ensures { IfOk result (λ p. p ≡ assigned (λ n. at_hole n fills.now) name.now) }
+fn assigned(
+    alloc: Global,
+    table: &HashMap<Name, Ident>,
+    name: &Name,
+) -> Result<Provision, AllocError>
+    ensures { IfOk result (λ p. p ≡ assigned (ident_in table.now) name.now) }
 {
     Ok(Provision {
         name: name.copied(alloc)?,
-        ident: identity_of(alloc, fills, name)?,
+        ident: identity_of(alloc, table, name)?,
     })
 }
 
 /// Names with their identities.
-fn all_assigned(alloc: Global, fills: &Fills, names: &[Name]) -> Result<Provisions, AllocError>
-    ensures { IfOk result (λ all. all ≡ map (assigned (λ n. at_hole n fills.now)) names.now) }
+fn all_assigned(
+    alloc: Global,
+    table: &HashMap<Name, Ident>,
+    names: &[Name],
+) -> Result<Provisions, AllocError>
+    ensures { IfOk result (λ all. all ≡ map (assigned (ident_in table.now)) names.now) }
 {
     let mut all = Items::new(alloc);
     for name in names {
-        all.push(assigned(alloc, fills, name)?)?;
+        all.push(assigned(alloc, table, name)?)?;
     }
     Ok(all)
 }
 
-/// Whether an identity is the hole of this name.
-fn is_hole(name: &Name, ident: &Ident) -> bool
-    ensures { result ≡ is_hole name.now ident.now }
+/// Whether a name is assigned itself.
+fn is_left(table: &HashMap<Name, Ident>, name: &Name) -> bool
+    ensures { result ≡ is_hole name.now (ident_in table.now name.now) }
 {
-    match ident {
-        Ident::Hole { name: hole } => *hole == *name,
-        Ident::Module { .. } => false,
+    match table.get(name) {
+        Some(Ident::Hole { name: hole }) => *hole == *name,
+        Some(Ident::Module { .. }) => false,
+        None => true,
     }
 }
 
 /// The names that are assigned themselves.
-fn holes_left(alloc: Global, fills: &Fills, names: &[Name]) -> Result<Names, AllocError>
-    ensures { IfOk result (λ holes. holes ≡ holes_left (λ n. at_hole n fills.now) names.now) }
+fn holes_left(
+    alloc: Global,
+    table: &HashMap<Name, Ident>,
+    names: &[Name],
+) -> Result<Names, AllocError>
+    ensures { IfOk result (λ holes. holes ≡ holes_left (ident_in table.now) names.now) }
 {
     let mut holes = Items::new(alloc);
     for name in names {
-        let ident = identity_of(alloc, fills, name)?;
-        if is_hole(name, &ident) {
+        if is_left(table, name) {
             holes.push(name.copied(alloc)?)?;
         }
     }
@@ -69,14 +106,18 @@ fn holes_left(alloc: Global, fills: &Fills, names: &[Name]) -> Result<Names, All
 }
 
 /// The fills of an include: each hole has the identity of its linkage name.
-fn fills_under(alloc: Global, fills: &Fills, needs: &[Rename]) -> Result<Fills, AllocError>
-    ensures { IfOk result (λ all. all ≡ fills_under (λ n. at_hole n fills.now) needs.now) }
+fn fills_under(
+    alloc: Global,
+    table: &HashMap<Name, Ident>,
+    needs: &[Rename],
+) -> Result<Fills, AllocError>
+    ensures { IfOk result (λ all. all ≡ fills_under (ident_in table.now) needs.now) }
 {
     let mut all = Items::new(alloc);
     for need in needs {
         all.push(Fill {
             hole: need.from.copied(alloc)?,
-            ident: identity_of(alloc, fills, &need.to)?,
+            ident: identity_of(alloc, table, &need.to)?,
         })?;
     }
     Ok(all)
@@ -112,10 +153,14 @@ fn provisions_in(
 }
 
 /// An include with its unit.
-fn include_under(alloc: Global, fills: &Fills, include: &OpenInclude) -> Result<Include, AllocError>
-    ensures { IfOk result (λ i. i ≡ include_under (λ n. at_hole n fills.now) include.now) }
+fn include_under(
+    alloc: Global,
+    table: &HashMap<Name, Ident>,
+    include: &OpenInclude,
+) -> Result<Include, AllocError>
+    ensures { IfOk result (λ i. i ≡ include_under (ident_in table.now) include.now) }
 {
-    let unit_fills = fills_under(alloc, fills, include.needs.as_slice())?;
+    let unit_fills = fills_under(alloc, table, include.needs.as_slice())?;
     let provides = provisions_in(alloc, &unit_fills, include.provides.as_slice())?;
     let component = include.component.copied(alloc)?;
     let needs = copied_renames(alloc, &include.needs)?;
@@ -132,16 +177,32 @@ fn include_under(alloc: Global, fills: &Fills, include: &OpenInclude) -> Result<
 /// Includes with their units.
 fn includes_under(
     alloc: Global,
-    fills: &Fills,
+    table: &HashMap<Name, Ident>,
     includes: &[OpenInclude],
 ) -> Result<Includes, AllocError>
-    ensures { IfOk result (λ all. all ≡ map (include_under (λ n. at_hole n fills.now)) includes.now) }
+    ensures { IfOk result (λ all. all ≡ map (include_under (ident_in table.now)) includes.now) }
 {
     let mut all = Items::new(alloc);
     for include in includes {
-        all.push(include_under(alloc, fills, include)?)?;
+        all.push(include_under(alloc, table, include)?)?;
     }
     Ok(all)
+}
+
+/// The linking that this table gives.
+fn linking_from(
+    alloc: Global,
+    table: &HashMap<Name, Ident>,
+    required: &Names,
+    includes: &OpenIncludes,
+) -> Result<Linking, AllocError>
+    ensures { IfOk result (λ l. l ≡ linking_under (ident_in table.now) required.now includes.now) }
+{
+    Ok(Linking {
+        holes: holes_left(alloc, table, required.as_slice())?,
+        required: all_assigned(alloc, table, required.as_slice())?,
+        includes: includes_under(alloc, table, includes.as_slice())?,
+    })
 }
 
 /// The linking that these fills give.
@@ -153,9 +214,7 @@ pub fn linking_under(
 ) -> Result<Linking, AllocError>
     ensures { IfOk result (λ l. l ≡ linking_under (λ n. at_hole n fills.now) required.now includes.now) }
 {
-    Ok(Linking {
-        holes: holes_left(alloc, fills, required.as_slice())?,
-        required: all_assigned(alloc, fills, required.as_slice())?,
-        includes: includes_under(alloc, fills, includes.as_slice())?,
-    })
+    let table = idents_by_hole(alloc, fills.as_slice())?;
+    let linking = linking_from(alloc, &table, required, includes)?;
+    Ok(linking)
 }

@@ -5,4 +5,6 @@ use Rattle.mixin_link.specs.Equations.{equations_at}
 use Rattle.mixin_link.proofs.equations.equations_by_name.Given as goal
 
 abbrev pub invariant-loop-include : goal.invariant-loop-include
-invariant-loop-include l = (q : List ℕ) → equations_in l.table q ++ equations_at q (drop l.include-index l.includes) ≡ equations_at q l.includes
+invariant-loop-include l =
+    (q : List ℕ) → equations_in l.table q ++ equations_at q (drop l.include-index l.includes)
+    ≡ equations_at q l.includes
