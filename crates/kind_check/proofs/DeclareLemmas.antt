@@ -1,7 +1,6 @@
 -- Declarations and groups: one demand after another, and the kinds that are least.
-use Rattle.std.proofs.Common.{◌≡◌, ℕ, zero, suc, ◌+◌, ◌<◌, ◌≤◌, List, [], ◌∷◌, ◌++◌, length, get_or, take, drop, ◌⊎◌}
+use Rattle.std.proofs.Common.{◌≡◌, ℕ, zero, suc, ◌+◌, ◌<◌, ◌≤◌, List, [], ◌∷◌, ◌++◌, ◌⊎◌}
 use Rattle.std.proofs.Common.{inl, inr, refl, sym, ap, ap₂, subst, ◌∙◌, arith}
-use Rattle.std.specs.Prelude.{map}
 use Rattle.bp_base.specs.declared.ty.OrigName.{OrigName}
 use Rattle.hs_core.specs.Types.{KindTerm, star, arrow, arrows, TypeTerm, count}
 use Rattle.hs_core.specs.Kinds.{NameKinds, HasKind, Below, kind_at, HaveStar, TypeDecl, Meaning, fields, synonym}
@@ -12,6 +11,7 @@ use Rattle.kind_check.specs.Forms.{Guess, value, IsForm, Meets, AreReady, Equate
 use Rattle.kind_check.specs.Scopes.{Agree, guessed}
 use Rattle.kind_check.specs.Walks.{Demand, Imposes, NoGuess, fits, stars, keeps, first_keep, At, head, Local}
 use Rattle.kind_check.proofs.FormLemmas.{settled-least, settled-meets}
+use Rattle.kind_check.proofs.ScopeLemmas.{guessed-agree}
 use Rattle.kind_check.proofs.WalkLemmas.{Agree-trans, Agree-less, Meets-agree, HasKind-map, put, put-agree, put-at}
 
 -- ---- one demand after another
@@ -255,11 +255,6 @@ pub all_below : (f g : Guess) (a m : ℕ) → ((i : ℕ) → Below (f i) (g i)) 
 all_below f g a zero h = refl
 all_below f g a (suc m) h = (g a, guessed g (suc a) m, refl, h a, all_below f g (suc a) m h)
 
-pub guessed-same : (n : ℕ) (g h : Guess) (i m : ℕ) → i + m ≤ n → Agree n g h → guessed g i m ≡ guessed h i m
-guessed-same n g h i zero l a = refl
-guessed-same n g h i (suc m) l a = ap₂ (λ x xs. x ∷ xs) (a i (omega (arith, l)))
-    (guessed-same n g h (suc i) m (omega (arith, l)) a)
-
 -- what names mean where the group's unknowns have their kinds
 abbrev pub group_names : NameKinds → List TypeDecl → Guess → NameKinds
 group_names outer ds g = within_group outer ds (guessed g 0 (count ds))
@@ -290,7 +285,7 @@ least outer ds bs n p = record {
   least = λ others h.
       let c = p.complete (kind_at others) tt (kinding_keeps outer ds others h) in
       let e : guessed c.0 0 (count ds) ≡ others =
-      sym (guessed-same (count ds) (kind_at others) c.0 0 (count ds) (omega arith) c.1)
+      sym (guessed-agree (count ds) (kind_at others) c.0 0 (count ds) (omega arith) c.1)
       ∙ subst (λ m. guessed (kind_at others) 0 m ≡ others) (count-kept _ ds others h) (guessed-list others) in
       subst (AllBelow (guessed (settled bs) 0 (count ds))) e
       (all_below (settled bs) c.0 0 (count ds) (settled-least bs c.0 c.2));
@@ -421,25 +416,6 @@ pub least_is_one : (names : NameKinds) (ds : List TypeDecl) (js ks : List KindTe
     → AreLeastKinds names ds ks → js ≡ ks
 least_is_one names ds js ks p q = AllBelow-both js ks (p.least ks q.valid) (q.least js p.valid)
 
--- ---- lists in a loop
-
-map-take_suc : {A B : Type 0} (f : A → B) (xs : List A) (i : ℕ) (d : A) → i < length xs
-    → map f (take (suc i) xs) ≡ map f (take i xs) ++ f (get_or xs i d) ∷ []
-map-take_suc f [] i d l = absurd (omega (arith, l))
-map-take_suc f (x ∷ xs) zero d l = refl
-map-take_suc f (x ∷ xs) (suc i) d l = ap (λ ys. f x ∷ ys) (map-take_suc f xs i d (omega (arith, l)))
-
-pub map-take : {A B : Type 0} (f : A → B) (xs : List A) (i : ℕ) (d : A) → i < length xs
-    → map f (take (i + 1) xs) ≡ map f (take i xs) ++ f (get_or xs i d) ∷ []
-map-take f xs i d l = let z : suc i ≡ i + 1 = omega arith in subst
-    (λ j. map f (take j xs) ≡ map f (take i xs) ++ f (get_or xs i d) ∷ []) z (map-take_suc f xs i d l)
-
-pub map-at : {A B : Type 0} (f : A → B) (xs : List A) (i : ℕ) (d : A) → i < length xs
-    → map f xs ≡ map f (take i xs) ++ f (get_or xs i d) ∷ map f (drop (suc i) xs)
-map-at f [] i d l = absurd (omega (arith, l))
-map-at f (x ∷ xs) zero d l = refl
-map-at f (x ∷ xs) (suc i) d l = ap (λ ys. f x ∷ ys) (map-at f xs i d (omega (arith, l)))
-
 -- ---- a head that can't be made equal to the declaration's own unknown
 
 pub data_head_none : (names : Guess → NameKinds) (d : TypeDecl) (ts : List TypeTerm) (i n : ℕ) (old : List Bound)
@@ -492,7 +468,7 @@ least_alone names t m bs n p = record {
       let same : guessed g 1 m ≡ js = guessed-shift g (kind_at js) 0 m (λ i. refl)
       ∙ subst (λ c. guessed (kind_at js) 0 c ≡ js) e (guessed-list js) in
       let c = p.complete g tt (subst (λ xs. HasKind names (kind_at xs) t j) (sym same) h) in
-      let there : guessed c.0 1 m ≡ js = sym (guessed-same (suc m) g c.0 1 m (omega arith) c.1) ∙ same in (
+      let there : guessed c.0 1 m ≡ js = sym (guessed-agree (suc m) g c.0 1 m (omega arith) c.1) ∙ same in (
         subst (AllBelow (guessed (settled bs) 1 m)) there (all_below (settled bs) c.0 1 m (settled-least bs c.0 c.2)),
         subst (Below (settled bs 0)) (sym (c.1 0 (omega arith))) (settled-least bs c.0 c.2 0),
       );

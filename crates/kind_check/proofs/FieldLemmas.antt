@@ -1,9 +1,5 @@
 -- Fields of one constructor after another.
-use Rattle.std.proofs.Common.{◌≡◌, ℕ, zero, suc, ◌+◌, ◌<◌, List, [], ◌∷◌, ◌++◌, length, get_or, take, drop, refl, sym}
-use Rattle.std.proofs.Common.{ap, subst}
-use Rattle.std.proofs.Common.{◌∙◌, arith}
-use Rattle.std.specs.Prelude.{flat_map}
-use Rattle.std.proofs.lemmas.List.{append-nil, append_assoc}
+use Rattle.std.proofs.Common.{ℕ, List, [], ◌∷◌, ◌++◌}
 use Rattle.hs_core.specs.Types.{KindTerm, TypeTerm}
 use Rattle.hs_core.specs.Kinds.{NameKinds, HaveStar}
 use Rattle.type_unify.specs.Types.{Bound}
@@ -43,27 +39,3 @@ fields_refused names vars ts us vs old mid n m l p never =
     (stars-stable names vars n us l)
     (λ g h. let f = HaveStar-front (names g) (vars g) ts (us ++ vs) h in
     (f.0, (HaveStar-front (names g) (vars g) us vs f.1).0)) p never
-
--- ---- lists of lists in a loop
-
-flat_map-take_suc : {A B : Type 0} (f : A → List B) (xs : List A) (i : ℕ) (d : A) → i < length xs
-    → flat_map f (take (suc i) xs) ≡ flat_map f (take i xs) ++ f (get_or xs i d)
-flat_map-take_suc f [] i d l = absurd (omega (arith, l))
-flat_map-take_suc f (x ∷ xs) zero d l = append-nil (f x)
-flat_map-take_suc f (x ∷ xs) (suc i) d l =
-    ap (λ ys. f x ++ ys) (flat_map-take_suc f xs i d (omega (arith, l)))
-    ∙ sym (append_assoc (f x) (flat_map f (take i xs)) (f (get_or xs i d)))
-
-pub flat_map-take : {A B : Type 0} (f : A → List B) (xs : List A) (i : ℕ) (d : A) → i < length xs
-    → flat_map f (take (i + 1) xs) ≡ flat_map f (take i xs) ++ f (get_or xs i d)
-flat_map-take f xs i d l =
-    let z : suc i ≡ i + 1 = omega arith in
-    subst (λ j. flat_map f (take j xs) ≡ flat_map f (take i xs) ++ f (get_or xs i d)) z (flat_map-take_suc f xs i d l)
-
-pub flat_map-at : {A B : Type 0} (f : A → List B) (xs : List A) (i : ℕ) (d : A) → i < length xs
-    → flat_map f xs ≡ flat_map f (take i xs) ++ (f (get_or xs i d) ++ flat_map f (drop (suc i) xs))
-flat_map-at f [] i d l = absurd (omega (arith, l))
-flat_map-at f (x ∷ xs) zero d l = refl
-flat_map-at f (x ∷ xs) (suc i) d l =
-    ap (λ ys. f x ++ ys) (flat_map-at f xs i d (omega (arith, l)))
-    ∙ sym (append_assoc (f x) (flat_map f (take i xs)) (f (get_or xs i d) ++ flat_map f (drop (suc i) xs)))

@@ -8,3 +8,4 @@ pub mod HeadLemmas
 pub mod GroupLemmas
 pub mod StackLemmas
 pub mod WrittenLemmas
+pub mod LoopLemmas

@@ -168,7 +168,7 @@ known_here known n rest tail e is same h k = (
   λ q. (h k).1 (subst (λ r. known_names r n k) (sym is) (inl (same, q))),
 )
 
-some_same : (j k : KindTerm) → Some j ≡ Some k → j ≡ k
+pub some_same : (j k : KindTerm) → Some j ≡ Some k → j ≡ k
 some_same j k e = ap inner e
   where
     inner : Option KindTerm → KindTerm

@@ -2,7 +2,7 @@
 use Rattle.std.proofs.Common.{◌≡◌, ℕ, zero, suc, ◌+◌, List, [], ◌∷◌, ◌++◌, length, drop, refl, sym, ap, ap₂}
 use Rattle.std.proofs.Common.{◌∙◌, arith}
 use Rattle.std.specs.Prelude.{map}
-use Rattle.std.proofs.lemmas.List.{reverse-append}
+use Rattle.std.proofs.lemmas.List.{reverse-append, map-append, drop_all}
 use Rattle.bp_base.specs.declared.ty.Kind.{Kind}
 use Rattle.hs_core.specs.Types.{KindTerm, star, arrow, kind_term}
 use Rattle.type_unify.specs.Types.{Plain}
@@ -90,11 +90,7 @@ node_read ks js ns rest n all e f h =
 pub all_read : (kinds : List Kind) (i : ℕ) (ns : List Node) (t : Plain) → i ≡ length ns
     → kinds_read (stacked kinds) (drop i ns) ≡ kinds_read [] ns → AreNodesOf ns t → stacked kinds ≡ decided t ∷ []
 all_read kinds i ns t e h a =
-    sym (ap (kinds_read (stacked kinds)) (ap (λ j. drop j ns) e ∙ drop_all ns)) ∙ h ∙ read_kind ns t a
-  where
-    drop_all : {A : Type 0} (xs : List A) → drop (length xs) xs ≡ []
-    drop_all [] = refl
-    drop_all (x ∷ xs) = drop_all xs
+    sym (ap (kinds_read (stacked kinds)) (drop_all i ns (omega (arith, e)))) ∙ h ∙ read_kind ns t a
 
 -- the stack in the end has the kind alone
 pub top_kind : (old new : List Kind) (k : Kind) (j : KindTerm) → old ≡ new ++ k ∷ [] → stacked old ≡ j ∷ []
@@ -120,15 +116,11 @@ guessed-push g i (suc m) =
     let e : suc i + m ≡ i + suc m = omega arith in
     ap (λ xs. g i ∷ xs) (guessed-push g (suc i) m ∙ ap (λ j. guessed g (suc i) m ++ g j ∷ []) e)
 
-pub map-push : {A B : Type 0} (f : A → B) (xs : List A) (x : A) → map f (xs ++ x ∷ []) ≡ map f xs ++ f x ∷ []
-map-push f [] x = refl
-map-push f (y ∷ ys) x = ap (λ zs. f y ∷ zs) (map-push f ys x)
-
 -- one more kind behind those of the unknowns so far
 pub settled-push : (g : Guess) (i : ℕ) (old new : List Kind) (k : Kind) → new ≡ old ++ k ∷ [] → kind_term k ≡ g i
     → map kind_term old ≡ guessed g 0 i → map kind_term new ≡ guessed g 0 (i + 1)
 settled-push g i old new k e f h =
     let z : 0 + i ≡ i = omega arith in
     let s : suc i ≡ i + 1 = omega arith in
-    ap (map kind_term) e ∙ map-push kind_term old k ∙ ap₂ (λ xs x. xs ++ x ∷ []) h (f ∙ ap g (sym z))
+    ap (map kind_term) e ∙ map-append kind_term old (k ∷ []) ∙ ap₂ (λ xs x. xs ++ x ∷ []) h (f ∙ ap g (sym z))
     ∙ sym (guessed-push g 0 i) ∙ ap (guessed g 0) s

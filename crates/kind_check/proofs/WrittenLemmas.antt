@@ -6,7 +6,7 @@ use Rattle.std.proofs.lemmas.Bool.{leb-true, le-leb, and_parts, and_from}
 use Rattle.std.specs.Prelude.{◌↔◌, IsTrue, Option, Some, None, ◌&&◌, nat_le}
 use Rattle.bp_base.specs.Texts.{Text}
 use Rattle.bp_base.specs.declared.ty.OrigName.{OrigName}
-use Rattle.type_terms.specs.Terms.{var, app}
+use Rattle.type_terms.specs.Terms.{var}
 use Rattle.hs_core.specs.declared.tree.Written.{Written}
 use Rattle.hs_core.specs.declared.tree.Written.TheVariants.{WApp}
 use Rattle.hs_core.specs.declared.tree.Written.TheBlock.{hidden-the_row-Written-0}
@@ -28,6 +28,7 @@ use Rattle.bp_base.specs.declared.ty.Ty.{Ty}
 use Rattle.hs_core.specs.Sameness.{same_original}
 use Rattle.hs_core.proofs.SamenessLemmas.{original_itself, original_same}
 use Rattle.kind_check.proofs.WalkLemmas.{HasKind-map}
+use Rattle.kind_check.proofs.ArmLemmas.{written_app}
 use Rattle.kind_check.proofs.DeclareLemmas.{fits_alone, least_alone, none_alone}
 
 -- the same demand in other words
@@ -124,11 +125,6 @@ met_both old mid new w f a g b e p q x y =
 
 -- ---- synonyms
 
-pub written_apply : (ps : List Text) (f a : Written)
-    → written_term ps (WApp f a) ≡ app (written_term ps f) (written_term ps a)
-unfolding hidden-the_row-Written-0 hidden
-written_apply ps f a = refl
-
 -- an application is fully applied where its parts are
 pub full_both : (S : Synonyms) (w f a g b : Written) (given more : ℕ) (x y : Bool) → w ≡ WApp f a → g ≡ f → b ≡ a
     → more ≡ given + 1
@@ -137,7 +133,7 @@ pub full_both : (S : Synonyms) (w f a g b : Written) (given more : ℕ) (x y : B
     → (ps : List Text) → IsTrue (x && y) ↔ IsFullyApplied S (written_term ps w) given
 full_both S w f a g b given more x y e p q m h k ps =
     let s : more ≡ suc given = omega (arith, m) in
-    let is = sym (ap (written_term ps) e ∙ written_apply ps f a) in
+    let is = sym (ap (written_term ps) e ∙ written_app ps f a) in
     let one = subst (λ i. IsTrue x ↔ IsFullyApplied S (written_term ps f) i) s
     (subst (λ u. IsTrue x ↔ IsFullyApplied S (written_term ps u) more) p (h ps)) in
     let two = subst (λ u. IsTrue y ↔ IsFullyApplied S (written_term ps u) 0) q (k ps) in

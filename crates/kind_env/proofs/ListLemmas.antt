@@ -1,9 +1,9 @@
 -- Lists of names that grow, and what names mean by them.
-use Rattle.std.proofs.Common.{◌≡◌, ℕ, zero, suc, ◌+◌, ◌-◌, ◌<◌, ◌≤◌, Bool, true, false, List, [], ◌∷◌, ◌++◌, length}
+use Rattle.std.proofs.Common.{◌≡◌, ℕ, suc, ◌+◌, ◌<◌, Bool, true, false, List, [], ◌∷◌, ◌++◌, length}
 use Rattle.std.proofs.Common.{get_or, take}
-use Rattle.std.proofs.Common.{inl, inr, refl, sym, ap, ap₂, subst, ◌∙◌, arith}
-use Rattle.std.specs.Prelude.{◌↔◌, map, flat_map, replicate, Option, Some, None, if◌then◌else◌}
-use Rattle.std.proofs.lemmas.List.{append-nil, append_assoc}
+use Rattle.std.proofs.Common.{inl, inr, refl, sym, ap, subst, ◌∙◌, arith}
+use Rattle.std.specs.Prelude.{◌↔◌, map, flat_map, replicate, Option, Some, None}
+use Rattle.std.proofs.lemmas.List.{append-nil, append_assoc, map-append}
 use Rattle.bp_base.specs.declared.ty.OrigName.{OrigName}
 use Rattle.bp_base.specs.declared.ty.Kind.{Kind}
 use Rattle.bp_base.specs.declared.ty.Kind.TheVariants.{Arrow, Star}
@@ -13,16 +13,16 @@ use Rattle.bp_base.specs.declared.ty.Ty.TheBlock.{hidden-the_row-Ty-0}
 use denote.Hole.Carrier.{hidden}
 use Rattle.bp_base.specs.declared.special.Special.{Special}
 use Rattle.hs_core.specs.Types.{KindTerm, star, arrow, arrows, kind_term}
-use Rattle.hs_core.specs.Expansion.{Synonym}
 use Rattle.hs_core.specs.Sameness.{same_original}
 use Rattle.hs_core.proofs.SamenessLemmas.{original_itself, original_same}
-use Rattle.hs_core.specs.Globals.{Named, NameMeaning, Globals, kind_in, synonym_in, in_front, no_names, noted_in}
+use Rattle.hs_core.specs.Globals.{Named, NameMeaning, kind_in, synonym_in, in_front, no_names, noted_in}
 use Rattle.hs_core.specs.Globals.{special_types, special_constructors}
 use Rattle.kind_check.specs.declared.scope.Known.{Known}
 use Rattle.kind_check.specs.Scopes.{known_names, sense_kind}
 use Rattle.kind_check.specs.Answers.{known_synonyms, sense_synonym}
 use Rattle.kind_check.proofs.ArmLemmas.{kind_arrow}
-use Rattle.kind_env.specs.Listings.{Lists, AreListed, Adds, type_of_special, value_of_special, nth_type, nth_value}
+use Rattle.kind_check.proofs.LoopLemmas.{map_next, flat_next}
+use Rattle.kind_env.specs.Listings.{AreListed, Adds, type_of_special, value_of_special, nth_type, nth_value}
 use Rattle.kind_env.specs.Listings.{firsts}
 
 pub kind_from_star : (t : Kind) → kind_term (Arrow Star t) ≡ arrow star (kind_term t)
@@ -65,50 +65,21 @@ adds_same xs ys old new e h = subst (λ z. Adds z old new) e h
 
 -- ---- loops
 
-flat-suc : {A B : Type 0} (f : A → List B) (xs : List A) (i : ℕ) (d : A) → i < length xs
-    → flat_map f (take (suc i) xs) ≡ flat_map f (take i xs) ++ f (get_or xs i d)
-flat-suc f [] i d l = absurd (omega (arith, l))
-flat-suc f (x ∷ xs) zero d l = append-nil (f x)
-flat-suc f (x ∷ xs) (suc i) d l =
-    ap (λ ys. f x ++ ys) (flat-suc f xs i d (omega (arith, l)))
-    ∙ sym (append_assoc (f x) (flat_map f (take i xs)) (f (get_or xs i d)))
-
-map-suc : {A B : Type 0} (f : A → B) (xs : List A) (i : ℕ) (d : A) → i < length xs
-    → map f (take (suc i) xs) ≡ map f (take i xs) ++ f (get_or xs i d) ∷ []
-map-suc f [] i d l = absurd (omega (arith, l))
-map-suc f (x ∷ xs) zero d l = refl
-map-suc f (x ∷ xs) (suc i) d l = ap (λ ys. f x ∷ ys) (map-suc f xs i d (omega (arith, l)))
-
 pub adds_next : {A : Type 0} (f : A → List Named) (xs : List A) (i : ℕ) (x d : A) (old mid new : List Known)
     → i < length xs → x ≡ get_or xs i d → Adds (flat_map f (take i xs)) old mid → Adds (f x) mid new
     → Adds (flat_map f (take (i + 1) xs)) old new
 adds_next f xs i x d old mid new l e p q =
-    let s : suc i ≡ i + 1 = omega arith in
-    subst (λ j. Adds (flat_map f (take j xs)) old new) s
-    (subst (λ z. Adds z old new)
-    (ap (λ y. flat_map f (take i xs) ++ f y) e ∙ sym (flat-suc f xs i d l))
-    (adds_both (flat_map f (take i xs)) (f x) old mid new p q))
+    subst (λ z. Adds z old new)
+    (ap (λ y. flat_map f (take i xs) ++ f y) e ∙ sym (flat_next f xs i d l))
+    (adds_both (flat_map f (take i xs)) (f x) old mid new p q)
 
 pub adds_next_one : {A : Type 0} (f : A → Named) (xs : List A) (i : ℕ) (x d : A) (old mid new : List Known)
     → i < length xs → x ≡ get_or xs i d → Adds (map f (take i xs)) old mid → Adds (f x ∷ []) mid new
     → Adds (map f (take (i + 1) xs)) old new
 adds_next_one f xs i x d old mid new l e p q =
-    let s : suc i ≡ i + 1 = omega arith in
-    subst (λ j. Adds (map f (take j xs)) old new) s
-    (subst (λ z. Adds z old new)
-    (ap (λ y. map f (take i xs) ++ f y ∷ []) e ∙ sym (map-suc f xs i d l))
-    (adds_both (map f (take i xs)) (f x ∷ []) old mid new p q))
-
-take_whole : {A : Type 0} (xs : List A) → take (length xs) xs ≡ xs
-take_whole [] = refl
-take_whole (x ∷ xs) = ap (λ ys. x ∷ ys) (take_whole xs)
-
-pub take_end : {A : Type 0} (xs : List A) (i : ℕ) → i ≡ length xs → take i xs ≡ xs
-take_end xs i e = ap (λ j. take j xs) e ∙ take_whole xs
-
-map-push : {A B : Type 0} (f : A → B) (xs : List A) (x : A) → map f (xs ++ x ∷ []) ≡ map f xs ++ f x ∷ []
-map-push f [] x = refl
-map-push f (y ∷ ys) x = ap (λ zs. f y ∷ zs) (map-push f ys x)
+    subst (λ z. Adds z old new)
+    (ap (λ y. map f (take i xs) ++ f y ∷ []) e ∙ sym (map_next f xs i d l))
+    (adds_both (map f (take i xs)) (f x ∷ []) old mid new p q)
 
 pub adds_nth : (g : Special → Named) (f : ℕ → Special) (i : ℕ) (x : Special) (old mid new : List Known) → x ≡ f i
     → Adds (map g (firsts f i)) old mid → Adds (g x ∷ []) mid new → Adds (map g (firsts f (i + 1))) old new
@@ -116,7 +87,7 @@ adds_nth g f i x old mid new e p q =
     let s : suc i ≡ i + 1 = omega arith in
     subst (λ j. Adds (map g (firsts f j)) old new) s
     (subst (λ z. Adds z old new)
-    (ap (λ y. map g (firsts f i) ++ g y ∷ []) e ∙ sym (map-push g (firsts f i) (f i)))
+    (ap (λ y. map g (firsts f i) ++ g y ∷ []) e ∙ sym (map-append g (firsts f i) (f i ∷ [])))
     (adds_both (map g (firsts f i)) (g x ∷ []) old mid new p q))
 
 pub all_types : map type_of_special (firsts nth_type 17) ≡ special_types

@@ -1,5 +1,5 @@
 -- Lists of names as the program keeps them, and as the definitions of names of modules have them.
-use Rattle.std.specs.Prelude.{◌≡◌, ◌-◌, ℕ, zero, suc, List, [], ◌∷◌, ◌++◌, map, flat_map, Some}
+use Rattle.std.specs.Prelude.{◌≡◌, ℕ, zero, suc, List, [], ◌∷◌, ◌++◌, flat_map, Some}
 use Rattle.bp_base.specs.Texts.{Text}
 use Rattle.bp_base.specs.Specials.{base_prelude, special_name}
 use Rattle.bp_base.specs.declared.special.Special.{Special}

@@ -1,13 +1,13 @@
 -- Groups one after another: what names mean, and where the first group without kinds stands.
-use Rattle.std.proofs.Common.{◌≡◌, ◌≢◌, ℕ, zero, suc, ◌+◌, ◌<◌, ◌≤◌, List, [], ◌∷◌, ◌++◌, length, get_or, take, drop}
-use Rattle.std.proofs.Common.{◌⊎◌, inl}
+use Rattle.std.proofs.Common.{◌≡◌, ℕ, zero, suc, ◌+◌, ◌<◌, List, [], ◌∷◌, ◌++◌, length, get_or, take, drop}
+use Rattle.std.proofs.Common.{inl}
 use Rattle.std.proofs.Common.{inr, refl, sym, ap, subst, ◌∙◌, arith}
-use Rattle.std.specs.Prelude.{map, ◌↔◌, Option, Some, None}
+use Rattle.std.specs.Prelude.{map, ◌↔◌, Some}
 use Rattle.bp_base.specs.Texts.{Text}
 use Rattle.bp_base.specs.declared.ty.OrigName.{OrigName}
 use Rattle.bp_base.specs.declared.ty.Kind.{Kind}
-use Rattle.hs_core.specs.Types.{KindTerm, star, kind_term, count}
-use Rattle.hs_core.specs.Kinds.{NameKinds, TypeDecl, Given, IsOutside, within_group, AllKeep, AreLeastKinds, IsKinding}
+use Rattle.hs_core.specs.Types.{KindTerm, kind_term}
+use Rattle.hs_core.specs.Kinds.{NameKinds, TypeDecl, Given, within_group, AllKeep, AreLeastKinds, IsKinding}
 use Rattle.kind_check.specs.declared.scope.Known.{Known}
 use Rattle.kind_check.specs.declared.scope.GroupDecl.{GroupDecl}
 use Rattle.kind_check.specs.declared.group.TypeGroup.{TypeGroup}
@@ -17,20 +17,15 @@ use Rattle.kind_check.specs.declared.group.GroupError.TheVariants as why
 use Rattle.kind_check.specs.Scopes.{decls_of, known_names, sense_kind}
 use Rattle.kind_check.specs.Walks.{HasNoKinding}
 use Rattle.kind_check.specs.Answers.{IsFirst, IsGroupError}
-use Rattle.kind_check.proofs.ScopeLemmas.{count-length}
+use Rattle.std.proofs.lemmas.List.{take_more}
+use Rattle.kind_check.proofs.LoopLemmas.{take_end}
+use Rattle.kind_check.proofs.ScopeLemmas.{count-length, some_same}
 use Rattle.kind_check.proofs.DeclareLemmas.{Keeps-map, count-kept}
 use Rattle.kind_check.proofs.GroupLemmas.{count-decls}
 use Rattle.kind_order.specs.declared.order.GroupKinds.{GroupKinds}
 use Rattle.kind_order.specs.Orders.{IsNamed, with_group, AreKindsOf, Follows, Kinded, IllAt, IsOrderError}
 
 -- ---- a group's names in front
-
-some_same : (j k : KindTerm) → Some j ≡ Some k → j ≡ k
-some_same j k e = ap inner e
-  where
-    inner : Option KindTerm → KindTerm
-    inner (Some i) = i
-    inner None = star
 
 pub named_front : (ds : List GroupDecl) (ks : List Kind) (es outer : List Known) (n : OrigName) (k : KindTerm)
     → IsNamed ds ks es
@@ -74,18 +69,6 @@ IsNamed-push (c ∷ ds) (j ∷ ks) [] d k e l i p q = absurd i
 IsNamed-push (c ∷ ds) (j ∷ ks) (f ∷ es) d k e l i p q =
     (i.0, i.1, IsNamed-push ds ks es d k e (omega (arith, l)) i.2 p q)
 
-take-suc : {A : Type 0} (xs : List A) (i : ℕ) (d : A) → i < length xs
-    → take (suc i) xs ≡ take i xs ++ get_or xs i d ∷ []
-take-suc [] i d l = absurd (omega (arith, l))
-take-suc (x ∷ xs) zero d l = refl
-take-suc (x ∷ xs) (suc i) d l = ap (λ ys. x ∷ ys) (take-suc xs i d (omega (arith, l)))
-
-take-next : {A : Type 0} (xs : List A) (i : ℕ) (d : A) → i < length xs
-    → take (i + 1) xs ≡ take i xs ++ get_or xs i d ∷ []
-take-next xs i d l =
-    let z : suc i ≡ i + 1 = omega arith in
-    subst (λ j. take j xs ≡ take i xs ++ get_or xs i d ∷ []) z (take-suc xs i d l)
-
 length-take_both : {A B : Type 0} (xs : List A) (ys : List B) (i : ℕ) → length xs ≡ length ys
     → length (take i xs) ≡ length (take i ys)
 length-take_both xs ys zero e = refl
@@ -99,21 +82,17 @@ pub named-next : (ds : List GroupDecl) (ks : List Kind) (i : ℕ) (old new : Lis
     → d ≡ get_or ds i d' → k ≡ get_or ks i k' → e.name ≡ d.name → sense_kind e.sense ≡ Some (kind_term k)
     → IsNamed (take (i + 1) ds) (take (i + 1) ks) new
 named-next ds ks i old new e d d' k k' l b h n p q x y =
-    subst (λ z. IsNamed z (take (i + 1) ks) new) (sym (take-next ds i d' b))
-    (subst (λ z. IsNamed (take i ds ++ get_or ds i d' ∷ []) z new) (sym (take-next ks i k' (omega (arith, l, b))))
+    subst (λ z. IsNamed z (take (i + 1) ks) new) (sym (take_more ds i d' b))
+    (subst (λ z. IsNamed (take i ds ++ get_or ds i d' ∷ []) z new) (sym (take_more ks i k' (omega (arith, l, b))))
     (subst (IsNamed (take i ds ++ get_or ds i d' ∷ []) (take i ks ++ get_or ks i k' ∷ [])) (sym n)
     (IsNamed-push (take i ds) (take i ks) old (get_or ds i d') (get_or ks i k') e (length-take_both ks ds i l) h
     (x ∙ ap (λ z. z.name) p) (y ∙ ap (λ z. Some (kind_term z)) q))))
 
-take_whole : {A : Type 0} (xs : List A) → take (length xs) xs ≡ xs
-take_whole [] = refl
-take_whole (x ∷ xs) = ap (λ ys. x ∷ ys) (take_whole xs)
-
 pub named-all : (ds : List GroupDecl) (ks : List Kind) (i : ℕ) (es : List Known) → i ≡ length ds
     → length ks ≡ length ds → IsNamed (take i ds) (take i ks) es → IsNamed ds ks es
 named-all ds ks i es e l h =
-    subst (λ z. IsNamed z ks es) (ap (λ j. take j ds) e ∙ take_whole ds)
-    (subst (λ z. IsNamed (take i ds) z es) (ap (λ j. take j ks) (e ∙ sym l) ∙ take_whole ks) h)
+    subst (λ z. IsNamed z ks es) (take_end ds i e)
+    (subst (λ z. IsNamed (take i ds) z es) (take_end ks i (e ∙ sym l)) h)
 
 pub front_is : (ds ds' : List GroupDecl) (ks ks' : List Kind) (es outer new : List Known) → ds ≡ ds' → ks ≡ ks'
     → new ≡ es ++ outer → IsNamed ds ks es → (n : OrigName) (k : KindTerm)
@@ -210,7 +189,7 @@ pub gone-more : (N : NameKinds) (gs : List TypeGroup) (i : ℕ) (old new : List 
     (env next : KindEnv) → i < length gs → g ≡ get_or gs i d → Gone N (take i gs) old env
     → Follows (known_names env.names) g next old new → Gone N (take (i + 1) gs) new next
 gone-more N gs i old new g d env next l e h f =
-    subst (λ z. Gone N z new next) (sym (take-next gs i d l))
+    subst (λ z. Gone N z new next) (sym (take_more gs i d l))
     (subst (λ y. Gone N (take i gs ++ y ∷ []) new next) e
     (subst (λ z. Gone N (take i gs ++ g ∷ []) z next) (sym f.more) (record {
       kinded = kinded-push N (take i gs) old g f.next h.kinded
@@ -229,7 +208,7 @@ gone-more N gs i old new g d env next l e h f =
 pub gone-all : (N : NameKinds) (gs : List TypeGroup) (i : ℕ) (kss : List GroupKinds) (env : KindEnv) → i ≡ length gs
     → Gone N (take i gs) kss env → Kinded N gs kss
 gone-all N gs i kss env e h =
-    subst (λ z. Kinded N z kss) (ap (λ j. take j gs) e ∙ take_whole gs) h.kinded
+    subst (λ z. Kinded N z kss) (take_end gs i e) h.kinded
 
 split-at : {A : Type 0} (xs : List A) (i : ℕ) (d : A) → i < length xs
     → take i xs ++ (get_or xs i d ∷ drop (suc i) xs) ≡ xs

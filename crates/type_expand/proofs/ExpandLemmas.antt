@@ -1,5 +1,5 @@
 -- Expansion case by case, and that so many synonyms are enough.
-use Rattle.std.proofs.Common.{◌≡◌, ℕ, zero, suc, ◌+◌, ◌-◌, ◌<◌, ◌≤◌, Bool, true, false, List, [], ◌∷◌, ◌++◌, length}
+use Rattle.std.proofs.Common.{◌≡◌, ℕ, zero, suc, ◌-◌, ◌<◌, ◌≤◌, Bool, true, false, List, [], ◌∷◌, ◌++◌, length}
 use Rattle.std.proofs.Common.{take, drop}
 use Rattle.std.proofs.Common.{inl, inr, refl, sym, ap, subst, ◌∙◌, arith, true≢false}
 use Rattle.std.specs.Prelude.{map, reverse, Option, Some, None, IsSome, is_some, nat_le, IsTrue}
@@ -12,8 +12,8 @@ use Rattle.bp_base.specs.declared.ty.Kind.{Kind}
 use Rattle.bp_base.specs.declared.ty.Ty.{Ty}
 use Rattle.bp_base.specs.declared.ty.Ty.TheVariants.{Var, Con, App}
 use Rattle.type_terms.specs.Terms.{var, con, app, applied}
-use Rattle.hs_core.specs.Types.{TypeTerm, type_term, applied_to, listed, depth, count}
-use Rattle.hs_core.specs.Expansion.{Synonym, Synonyms, Expands, ExpandEach, IsFullyApplied, IsMet, LeadsTo}
+use Rattle.hs_core.specs.Types.{TypeTerm, type_term, applied_to, listed, count}
+use Rattle.hs_core.specs.Expansion.{Synonym, Synonyms, Expands, ExpandEach, IsMet, LeadsTo}
 use Rattle.hs_core.specs.Expansion.{IsExpandable}
 use Rattle.hs_core.specs.Expansion.LeadsTo.{at_once, through}
 use Rattle.hs_core.specs.Expansion.Expands.{variable, name, application, body_for}
@@ -22,7 +22,7 @@ use Rattle.hs_core.specs.Sameness.{same_original}
 use Rattle.hs_core.proofs.SamenessLemmas.{original_same}
 use Rattle.kind_check.specs.declared.scope.Known.{Known}
 use Rattle.kind_check.specs.declared.scope.Sense.{Sense}
-use Rattle.kind_check.specs.declared.scope.Sense.TheVariants.{SynonymOf, TypeOf, Other}
+use Rattle.kind_check.specs.declared.scope.Sense.TheVariants.{SynonymOf}
 use Rattle.kind_check.specs.Answers.{known_synonyms, sense_synonym}
 use Rattle.type_expand.specs.Lawful.{names_of}
 use Rattle.type_expand.specs.Expanding.{stacked_types, CanExpand, CanNotExpand, ExpandsFor}

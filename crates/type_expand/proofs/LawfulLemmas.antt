@@ -2,7 +2,7 @@
 use Rattle.std.proofs.Common.{◌≡◌, ℕ, zero, suc, ◌+◌, ◌<◌, Bool, true, false, List, [], ◌∷◌, ◌++◌, length, get_or}
 use Rattle.std.proofs.Common.{take, inl}
 use Rattle.std.proofs.Common.{inr, refl, sym, ap, subst, ◌∙◌, arith, true≢false}
-use Rattle.std.specs.Prelude.{◌↔◌, IsTrue, map, Option, Some, None, IsSome, is_some, slice_get}
+use Rattle.std.specs.Prelude.{◌↔◌, IsTrue, Option, Some, None, IsSome, is_some, slice_get}
 use Rattle.bp_base.specs.Lists.{Among}
 use Rattle.bp_base.specs.declared.ty.OrigName.{OrigName}
 use Rattle.bp_base.specs.declared.ty.Kind.{Kind}
@@ -11,6 +11,8 @@ use Rattle.hs_core.specs.Types.{TypeTerm, type_term}
 use Rattle.hs_core.specs.Expansion.{Synonym, Synonyms, Expands, IsMet, LeadsTo, IsExpandable, AreLawful}
 use Rattle.hs_core.specs.Expansion.LeadsTo.{at_once, through}
 use Rattle.hs_core.proofs.ExpansionLemmas.{starts, expandable_from}
+use Rattle.std.proofs.lemmas.List.{take_more}
+use Rattle.kind_check.proofs.LoopLemmas.{take_end}
 use Rattle.kind_check.specs.declared.scope.Known.{Known}
 use Rattle.kind_check.specs.declared.scope.Sense.{Sense}
 use Rattle.kind_check.specs.declared.scope.Sense.TheVariants.{SynonymOf}
@@ -91,19 +93,11 @@ AllLawful-push : (S : Synonyms) (es : List Known) (e : Known) → AllLawful S es
 AllLawful-push S [] e h l = (l, tt)
 AllLawful-push S (x ∷ es) e h l = (h.0, AllLawful-push S es e h.1 l)
 
-take-suc : {A : Type 0} (xs : List A) (i : ℕ) (d : A) → i < length xs
-    → take (suc i) xs ≡ take i xs ++ get_or xs i d ∷ []
-take-suc [] i d l = absurd (omega (arith, l))
-take-suc (x ∷ xs) zero d l = refl
-take-suc (x ∷ xs) (suc i) d l = ap (λ ys. x ∷ ys) (take-suc xs i d (omega (arith, l)))
-
 pub lawful_next : (S : Synonyms) (es : List Known) (i : ℕ) (d : Known) (b : Bool) → i < length es
     → AllLawful S (take i es) → IsTrue b ↔ IsLawfulName S (get_or es i d).name → b ≡ true
     → AllLawful S (take (i + 1) es)
 lawful_next S es i d b l h k e =
-    let z : suc i ≡ i + 1 = omega arith in
-    subst (λ j. AllLawful S (take j es)) z
-    (subst (AllLawful S) (sym (take-suc es i d l)) (AllLawful-push S (take i es) (get_or es i d) h (k.0 e)))
+    subst (AllLawful S) (sym (take_more es i d l)) (AllLawful-push S (take i es) (get_or es i d) h (k.0 e))
 
 there : (es : List Known) (i : ℕ) (d : Known) → i < length es → slice_get es i ≡ Some (get_or es i d)
 there [] i d l = absurd (omega (arith, l))
@@ -121,13 +115,9 @@ unlawful_here known es i d b same l h k e =
       λ a. true≢false (sym (k.1 (lawful_to known (get_or known i d).name a)) ∙ e),
     )
 
-take_whole : {A : Type 0} (xs : List A) → take (length xs) xs ≡ xs
-take_whole [] = refl
-take_whole (x ∷ xs) = ap (λ ys. x ∷ ys) (take_whole xs)
-
 pub all_lawful : (known es : List Known) (i : ℕ) → known ≡ es → i ≡ length known
     → AllLawful (known_synonyms known) (take i known) → AreLawful (known_synonyms es) (names_of es)
 all_lawful known es i same e h =
     subst (λ x. AreLawful (known_synonyms x) (names_of x)) same
     (lawful_from (known_synonyms known) known
-    (subst (AllLawful (known_synonyms known)) (ap (λ j. take j known) e ∙ take_whole known) h))
+    (subst (AllLawful (known_synonyms known)) (take_end known i e) h))

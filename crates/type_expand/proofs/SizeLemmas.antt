@@ -12,8 +12,6 @@ use Rattle.hs_core.specs.Types.{TypeTerm, type_term}
 use Rattle.hs_core.specs.Expansion.{Synonym}
 use Rattle.hs_core.specs.Sameness.{same_original}
 use Rattle.kind_check.specs.declared.scope.Known.{Known}
-use Rattle.kind_check.specs.declared.scope.Sense.{Sense}
-use Rattle.kind_check.specs.declared.scope.Sense.TheVariants.{SynonymOf, TypeOf, Other}
 use Rattle.kind_check.specs.Answers.{known_synonyms, sense_synonym}
 use Rattle.type_expand.proofs.TypeLemmas.{type_app}
 

@@ -2,12 +2,12 @@
 use Rattle.std.proofs.Common.{◌≡◌, ℕ, zero, suc, ◌+◌, ◌<◌, ◌≤◌, List, [], ◌∷◌, ◌++◌, length, get_or, take, drop, refl}
 use Rattle.std.proofs.Common.{sym, ap}
 use Rattle.std.proofs.Common.{ap₂, subst, ◌∙◌, arith, ◌-◌, max, Bool, true, false, ◌&&◌, true≢false, inl, inr}
-use Rattle.std.specs.Prelude.{map, reverse, ◌↔◌, IsTrue}
+use Rattle.std.specs.Prelude.{map, ◌↔◌, IsTrue}
 use Rattle.std.proofs.Math.Nat.{le-max_left, le-max_right, max-le}
 use Rattle.std.proofs.lemmas.Bool.{and_parts, and_from}
-use Rattle.std.proofs.lemmas.List.{reverse-append}
+use Rattle.std.proofs.lemmas.List.{reverse-append, map-append}
 use Rattle.bp_base.specs.declared.ty.Ty.{Ty}
-use Rattle.bp_base.specs.declared.ty.Ty.TheVariants.{Var, Con, App}
+use Rattle.bp_base.specs.declared.ty.Ty.TheVariants.{Var, App}
 use Rattle.bp_base.specs.declared.ty.Ty.TheBlock.{hidden-the_row-Ty-0}
 use denote.Hole.Carrier.{hidden}
 use Rattle.type_terms.specs.Terms.{var, con, app, applied}
@@ -76,10 +76,6 @@ pub record Taken (all : List TypeTerm) (i : ℕ) (front rest : List Ty) : Type 0
   pub fronts : map type_term front ≡ take i all
   pub rests : stacked_types rest ≡ drop i all
 
-map-push : {A B : Type 0} (f : A → B) (xs : List A) (x : A) → map f (xs ++ x ∷ []) ≡ map f xs ++ f x ∷ []
-map-push f [] x = refl
-map-push f (y ∷ ys) x = ap (λ zs. f y ∷ zs) (map-push f ys x)
-
 pub taken-start : (args : List Ty) (front : List Ty) → front ≡ [] → Taken (stacked_types args) 0 front args
 taken-start args front e = record { fronts = ap (map type_term) e; rests = refl }
 
@@ -90,7 +86,8 @@ taken-next all i front rest more left arg e f t =
     let h = take_next all (stacked_types left) i (type_term arg)
     (sym t.rests ∙ ap stacked_types e ∙ stacked_types-push left arg) in
     record {
-      fronts = ap (map type_term) f ∙ map-push type_term front arg ∙ ap (λ xs. xs ++ type_term arg ∷ []) t.fronts
+      fronts = ap (map type_term) f ∙ map-append type_term front (arg ∷ [])
+          ∙ ap (λ xs. xs ++ type_term arg ∷ []) t.fronts
           ∙ sym h.0 ∙ ap (λ j. take j all) s;
       rests = sym h.1 ∙ ap (λ j. drop j all) s;
     }

@@ -1,5 +1,5 @@
 -- Which names are lawful synonyms (Haskell 2010 Report, section 4.2.2).
-use Rattle.std.specs.Prelude.{◌≡◌, ◌<◌, ℕ, List, [], ◌∷◌, map, take, length, slice_get, Option, Some, None}
+use Rattle.std.specs.Prelude.{◌≡◌, ℕ, List, [], ◌∷◌, map, take, slice_get, Option, Some, None}
 use Rattle.bp_base.specs.declared.ty.OrigName.{OrigName}
 use Rattle.hs_core.specs.Expansion.{Synonym, Synonyms, IsExpandable, AreLawful}
 use Rattle.kind_check.specs.declared.scope.Known.{Known}

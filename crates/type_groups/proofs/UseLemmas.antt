@@ -1,36 +1,34 @@
 -- Uses of type declarations, number by number.
-use Rattle.std.proofs.Common.{◌≡◌, ◌≢◌, ℕ, zero, suc, ◌+◌, ◌<◌, ◌≤◌, Bool, true, false, not, ◌||◌, List, [], ◌∷◌}
+use Rattle.std.proofs.Common.{◌≡◌, ℕ, zero, suc, ◌+◌, ◌<◌, Bool, true, false, not, ◌||◌, List, [], ◌∷◌}
 use Rattle.std.proofs.Common.{◌++◌, length}
-use Rattle.std.proofs.Common.{get_or, take, drop, inl, inr, refl, sym, ap, ap₂, subst, ◌∙◌, arith, nat_eq, ◌&&◌}
+use Rattle.std.proofs.Common.{get_or, take, inl, inr, refl, sym, ap, ap₂, subst, ◌∙◌, arith, nat_eq, ◌&&◌}
 use Rattle.std.proofs.Common.{true≢false}
 use Rattle.std.proofs.Common.{◌⊎◌, eqb-true, eq-eqb}
-use Rattle.std.specs.Prelude.{map, flat_map, filter, Option, Some, None, slice_get, slice_index_or, option_to_list}
-use Rattle.std.specs.Prelude.{if◌then◌else◌, OnOk, Result, Ok, Err}
+use Rattle.std.specs.Prelude.{map, flat_map, filter, Some, None, slice_get, option_to_list}
 use Rattle.std.specs.List.{list_any}
 use Rattle.std.proofs.lemmas.List.{append-nil, append_assoc}
 use Rattle.std.proofs.lemmas.Grind.{flat_map-append}
 use Rattle.bp_base.specs.Lists.{Among}
 use Rattle.bp_base.specs.Texts.{Text}
 use Rattle.bp_base.specs.declared.ty.OrigName.{OrigName}
-use Rattle.type_terms.specs.Terms.{var, con, app}
+use Rattle.type_terms.specs.Terms.{con, app}
 use Rattle.hs_core.specs.declared.tree.Written.{Written}
 use Rattle.hs_core.specs.declared.tree.Written.TheVariants.{WVar, WCon, WApp}
-use Rattle.hs_core.specs.declared.tree.FieldDecl.{FieldDecl}
 use Rattle.hs_core.specs.declared.tree.ConDecl.{ConDecl}
 use Rattle.hs_core.specs.declared.group.UseList.{UseList}
-use Rattle.hs_core.specs.Types.{TypeTerm, written_term, count}
+use Rattle.hs_core.specs.Types.{TypeTerm, written_term}
 use Rattle.hs_core.specs.Kinds.{TypeDecl}
 use Rattle.hs_core.specs.Sameness.{same_original}
 use Rattle.hs_core.proofs.SamenessLemmas.{original_itself, original_same}
-use Rattle.hs_core.specs.Groups.{InRange, uses_at}
+use Rattle.hs_core.specs.Groups.{InRange}
 use Rattle.hs_core.specs.WellTyped.{number_of, numbers_once, names_in, type_uses, meaning_types, chosen, field_terms}
 use Rattle.kind_check.specs.declared.scope.GroupDecl.{GroupDecl}
-use Rattle.kind_check.specs.declared.group.TypeGroup.{TypeGroup}
-use Rattle.kind_check.specs.Scopes.{decls_of, meaning_of, field_term}
+use Rattle.kind_check.specs.Scopes.{decls_of, meaning_of}
 use Rattle.kind_check.specs.declared.scope.Says.{Says}
 use Rattle.kind_check.specs.declared.scope.Says.TheVariants.{Fields, Synonym}
-use Rattle.kind_check.proofs.WrittenLemmas.{written_apply}
-use Rattle.type_groups.specs.Uses.{IsPlaceOf, with_number, with_numbers, uses_in, use_list, group_decls}
+use Rattle.kind_check.proofs.ArmLemmas.{written_app}
+use Rattle.kind_check.proofs.LoopLemmas.{flat_next}
+use Rattle.type_groups.specs.Uses.{with_number, with_numbers, uses_in, use_list}
 
 -- ---- the number of a name
 
@@ -108,42 +106,7 @@ parts_used ds ps w f a g b old mid new e p q x y =
     ∙ ap (with_numbers old)
     (ap₂ (λ i j. uses_in ds (written_term ps i ∷ written_term ps j ∷ [])) p q
     ∙ sym (uses_app ds (written_term ps f) (written_term ps a))
-    ∙ sym (ap (λ t. uses_in ds (t ∷ [])) (ap (written_term ps) e ∙ written_apply ps f a)))
-
--- ---- lists in loops
-
-map-suc : {A B : Type 0} (f : A → B) (xs : List A) (i : ℕ) (d : A) → i < length xs
-    → map f (take (suc i) xs) ≡ map f (take i xs) ++ f (get_or xs i d) ∷ []
-map-suc f [] i d l = absurd (omega (arith, l))
-map-suc f (x ∷ xs) zero d l = refl
-map-suc f (x ∷ xs) (suc i) d l = ap (λ ys. f x ∷ ys) (map-suc f xs i d (omega (arith, l)))
-
-pub map-next : {A B : Type 0} (f : A → B) (xs : List A) (i : ℕ) (d : A) → i < length xs
-    → map f (take (i + 1) xs) ≡ map f (take i xs) ++ f (get_or xs i d) ∷ []
-map-next f xs i d l =
-    let z : suc i ≡ i + 1 = omega arith in
-    subst (λ j. map f (take j xs) ≡ map f (take i xs) ++ f (get_or xs i d) ∷ []) z (map-suc f xs i d l)
-
-flat-suc : {A B : Type 0} (f : A → List B) (xs : List A) (i : ℕ) (d : A) → i < length xs
-    → flat_map f (take (suc i) xs) ≡ flat_map f (take i xs) ++ f (get_or xs i d)
-flat-suc f [] i d l = absurd (omega (arith, l))
-flat-suc f (x ∷ xs) zero d l = append-nil (f x)
-flat-suc f (x ∷ xs) (suc i) d l =
-    ap (λ ys. f x ++ ys) (flat-suc f xs i d (omega (arith, l)))
-    ∙ sym (append_assoc (f x) (flat_map f (take i xs)) (f (get_or xs i d)))
-
-pub flat-next : {A B : Type 0} (f : A → List B) (xs : List A) (i : ℕ) (d : A) → i < length xs
-    → flat_map f (take (i + 1) xs) ≡ flat_map f (take i xs) ++ f (get_or xs i d)
-flat-next f xs i d l =
-    let z : suc i ≡ i + 1 = omega arith in
-    subst (λ j. flat_map f (take j xs) ≡ flat_map f (take i xs) ++ f (get_or xs i d)) z (flat-suc f xs i d l)
-
-take_whole : {A : Type 0} (xs : List A) → take (length xs) xs ≡ xs
-take_whole [] = refl
-take_whole (x ∷ xs) = ap (λ ys. x ∷ ys) (take_whole xs)
-
-pub take_end : {A : Type 0} (xs : List A) (i : ℕ) → i ≡ length xs → take i xs ≡ xs
-take_end xs i e = ap (λ j. take j xs) e ∙ take_whole xs
+    ∙ sym (ap (λ t. uses_in ds (t ∷ [])) (ap (written_term ps) e ∙ written_app ps f a)))
 
 -- ---- each number once
 
@@ -360,8 +323,4 @@ pub member-next : (ds : List GroupDecl) (ms : List ℕ) (i d : ℕ) (old new : L
     → old ≡ chosen ds (take i ms) → new ≡ old ++ chosen ds (get_or ms i d ∷ []) → new ≡ chosen ds (take (i + 1) ms)
 member-next ds ms i d old new l e f =
     f ∙ ap₂ (λ x y. x ++ y) e (append-nil (option_to_list (slice_get ds (get_or ms i d))))
-    ∙ sym (flat-next (λ j. option_to_list (slice_get ds j)) ms i d l)
-
-pub map-push : {A B : Type 0} (f : A → B) (xs : List A) (x : A) → map f (xs ++ x ∷ []) ≡ map f xs ++ f x ∷ []
-map-push f [] x = refl
-map-push f (y ∷ ys) x = ap (λ zs. f y ∷ zs) (map-push f ys x)
+    ∙ sym (flat_next (λ j. option_to_list (slice_get ds j)) ms i d l)

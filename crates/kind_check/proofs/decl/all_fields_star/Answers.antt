@@ -6,7 +6,8 @@ use Rattle.hs_core.specs.WellTyped.{field_terms}
 use Rattle.kind_check.specs.Scopes.{names_under, variables_under, field_term}
 use Rattle.kind_check.specs.Walks.{Imposes, NoGuess, stars}
 use Rattle.kind_check.proofs.ScopeLemmas.{local}
-use Rattle.kind_check.proofs.FieldLemmas.{next_fields, fields_refused, flat_map-take, flat_map-at}
+use Rattle.kind_check.proofs.FieldLemmas.{next_fields, fields_refused}
+use Rattle.kind_check.proofs.LoopLemmas.{flat_next, flat_at}
 use Rattle.kind_check.proofs.decl.all_fields_star.Goals as goal
 
 pub returns-in_err-all_star-clause-none : goal.returns-in_err-all_star-clause-none
@@ -16,7 +17,7 @@ returns-in_err-all_star-clause-none c =
     rw (p.1, p.2) (λ z.
     subst (λ ts. NoGuess (stars (names_under c.args.known.now c.args.decls.now)
     (variables_under c.args.first (count c.args.params.now)) ts) c.args.bindings.now)
-    (sym (flat_map-at f c.args.cons.now c.loop-index.index c.index-cons-index.result c.loop-index-test.true))
+    (sym (flat_at f c.args.cons.now c.loop-index.index c.index-cons-index.result c.loop-index-test.true))
     (fields_refused _ _ (flat_map f (take c.loop-index.index c.args.cons.now)) _
     (flat_map f (drop (suc c.loop-index.index) c.args.cons.now)) _ _ _ _
     (local c.args.known.now c.args.decls.now c.args.first (count c.args.params.now)
@@ -33,7 +34,7 @@ loop-index-preserved c =
     subst (λ ts. Imposes (stars (names_under c.args.known.now c.args.decls.now)
     (variables_under c.args.first (count c.args.params.now)) ts)
     c.args.bindings.now c.all_star.new.bindings c.args.next.now c.all_star.new.next)
-    (sym (flat_map-take f c.args.cons.now c.loop-index.index c.index-cons-index.result c.loop-index-test.true))
+    (sym (flat_next f c.args.cons.now c.loop-index.index c.index-cons-index.result c.loop-index-test.true))
     (next_fields _ _ (flat_map f (take c.loop-index.index c.args.cons.now)) _ _ _ _ _ _ _
     (local c.args.known.now c.args.decls.now c.args.first (count c.args.params.now)
     c.args.next.now c.requires.group c.requires.params)

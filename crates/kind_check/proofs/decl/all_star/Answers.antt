@@ -5,7 +5,8 @@ use Rattle.hs_core.specs.Types.{count}
 use Rattle.kind_check.specs.Scopes.{names_under, variables_under, field_term}
 use Rattle.kind_check.specs.Walks.{Imposes, NoGuess, stars, fits_under}
 use Rattle.kind_check.proofs.ScopeLemmas.{local}
-use Rattle.kind_check.proofs.DeclareLemmas.{next_field, field_none, map-take, map-at}
+use Rattle.kind_check.proofs.DeclareLemmas.{next_field, field_none}
+use Rattle.kind_check.proofs.LoopLemmas.{map_next, map_at}
 use Rattle.kind_check.proofs.decl.all_star.Goals as goal
 
 pub returns-in_err-walk-clause-none : goal.returns-in_err-walk-clause-none
@@ -15,7 +16,7 @@ returns-in_err-walk-clause-none c =
     rw (p.1, p.2) (λ z.
     subst (λ ts. NoGuess (stars (names_under c.args.known.now c.args.decls.now)
     (variables_under c.args.first (count c.args.params.now)) ts) c.args.bindings.now)
-    (sym (map-at f c.args.types.now c.loop-index.index c.index-types-index.result c.loop-index-test.true))
+    (sym (map_at f c.args.types.now c.loop-index.index c.index-types-index.result c.loop-index-test.true))
     (field_none _ _ (map f (take c.loop-index.index c.args.types.now))
     (map f (drop (suc c.loop-index.index) c.args.types.now)) _ _ _ _ _
     (local c.args.known.now c.args.decls.now c.args.first (count c.args.params.now)
@@ -31,7 +32,7 @@ loop-index-preserved c =
     subst (λ ts. Imposes (stars (names_under c.args.known.now c.args.decls.now)
     (variables_under c.args.first (count c.args.params.now)) ts)
     c.args.bindings.now c.walk.new.bindings c.args.next.now c.walk.new.next)
-    (sym (map-take f c.args.types.now c.loop-index.index c.index-types-index.result c.loop-index-test.true))
+    (sym (map_next f c.args.types.now c.loop-index.index c.index-types-index.result c.loop-index-test.true))
     (next_field _ _ (map f (take c.loop-index.index c.args.types.now)) _ _ _ _ _ _ _
     (local c.args.known.now c.args.decls.now c.args.first (count c.args.params.now)
     c.args.next.now c.requires.group c.requires.params)

@@ -1,4 +1,4 @@
-use Rattle.std.proofs.Common.{sym, ap, ap₂, ◌∙◌, ◌++◌, refl}
+use Rattle.std.proofs.Common.{sym, ap, ap₂, ◌∙◌, ◌++◌}
 use Rattle.type_unify.proofs.StackingLemmas.{OnOk-then}
 use Rattle.hs_core.specs.Globals.{noted_in}
 use Rattle.kind_env.proofs.ListLemmas.{adds_both, adds_same, noted_app}

@@ -1,7 +1,8 @@
 use Rattle.std.proofs.Common.{◌≡◌, refl, ap, length, arith}
 use Rattle.std.specs.Prelude.{map}
 use Rattle.hs_core.specs.Globals.{constructor_of}
-use Rattle.kind_env.proofs.ListLemmas.{adds_nothing, adds_next_one, adds_same, take_end}
+use Rattle.kind_env.proofs.ListLemmas.{adds_nothing, adds_next_one, adds_same}
+use Rattle.kind_check.proofs.LoopLemmas.{take_end}
 use Rattle.kind_env.proofs.entities.add_cons.Goals as goal
 
 pub loop-index-init : goal.loop-index-init

@@ -2,7 +2,8 @@ use Rattle.std.proofs.Common.{◌≡◌, refl, ap, length, subst, arith}
 use Rattle.std.specs.Prelude.{flat_map}
 use Rattle.kind_env.specs.Listings.{noted_in_con}
 use Rattle.kind_env.specs.Listings.{Adds, noted_in_field}
-use Rattle.kind_env.proofs.ListLemmas.{adds_nothing, adds_next, adds_same, take_end}
+use Rattle.kind_env.proofs.ListLemmas.{adds_nothing, adds_next, adds_same}
+use Rattle.kind_check.proofs.LoopLemmas.{take_end}
 use Rattle.kind_env.proofs.entities.add_noted_in_cons.Goals as goal
 
 pub loop-index-init : goal.loop-index-init

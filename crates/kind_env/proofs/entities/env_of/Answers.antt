@@ -1,7 +1,6 @@
 use Rattle.std.proofs.Common.{ap, ◌++◌}
 use Rattle.std.specs.Prelude.{flat_map}
 use Rattle.hs_core.specs.Globals.{known_names as known_everywhere, declared_by, noted_by, names_of}
-use Rattle.kind_env.specs.Listings.{AreListed}
 use Rattle.kind_env.proofs.ListLemmas.{adds_both, adds_same, listed_all, listed_kinds, listed_synonyms}
 use Rattle.kind_env.proofs.entities.env_of.Goals as goal
 

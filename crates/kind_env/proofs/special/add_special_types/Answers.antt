@@ -1,6 +1,6 @@
-use Rattle.std.proofs.Common.{◌≡◌, refl, subst, ◌∙◌, ap, arith}
+use Rattle.std.proofs.Common.{◌≡◌, refl, ◌∙◌, ap, arith}
 use Rattle.std.specs.Prelude.{map}
-use Rattle.kind_env.specs.Listings.{Adds, type_of_special, nth_type, firsts}
+use Rattle.kind_env.specs.Listings.{type_of_special, nth_type, firsts}
 use Rattle.kind_env.proofs.ListLemmas.{adds_nothing, adds_nth, adds_same, all_types}
 use Rattle.kind_env.proofs.special.add_special_types.Goals as goal
 

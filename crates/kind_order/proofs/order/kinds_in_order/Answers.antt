@@ -1,6 +1,5 @@
-use Rattle.std.proofs.Common.{◌≡◌, length, arith}
 use Rattle.kind_check.specs.Scopes.{known_names}
-use Rattle.kind_order.proofs.OrderLemmas.{gone-none, gone-more, gone-all, gone-ill}
+use Rattle.kind_order.proofs.OrderLemmas.{gone-more, gone-ill}
 use Rattle.kind_order.proofs.order.kinds_in_order.Goals as goal
 
 pub returns-in-Err-clause-err : goal.returns-in-Err-clause-err

@@ -1,4 +1,3 @@
-use Rattle.std.proofs.Common.{eqb-true, true≢false, sym, ◌∙◌, eq-eqb}
 use Rattle.type_expand.proofs.TypeLemmas.{within_nothing, then_within, else_within}
 use Rattle.type_expand.proofs.apply.+is_within.Goals as goal
 

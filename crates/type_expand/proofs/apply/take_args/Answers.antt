@@ -1,5 +1,5 @@
 use Rattle.type_expand.specs.Expanding.{stacked_types}
-use Rattle.type_expand.proofs.TypeLemmas.{taken-start, taken-more}
+use Rattle.type_expand.proofs.TypeLemmas.{taken-more}
 use Rattle.type_expand.proofs.apply.take_args.Goals as goal
 
 pub loop-index-preserved : goal.loop-index-preserved

@@ -1,8 +1,5 @@
-use Rattle.std.proofs.Common.{subst}
 use Rattle.type_unify.proofs.StackingLemmas.{OnOk-then}
-use Rattle.hs_core.specs.WellTyped.{number_of}
 use Rattle.kind_check.specs.Scopes.{decls_of}
-use Rattle.type_groups.specs.Uses.{IsPlaceOf}
 use Rattle.type_groups.proofs.UseLemmas.{variable_none, name_none, name_found, parts_used}
 use Rattle.type_groups.proofs.uses.+add_type.Goals as goal
 

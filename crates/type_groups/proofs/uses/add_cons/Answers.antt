@@ -1,9 +1,10 @@
-use Rattle.std.proofs.Common.{sym, ap, ◌∙◌, ◌≡◌, take, length, arith, subst, get_or}
+use Rattle.std.proofs.Common.{sym, ap, ◌∙◌, ◌≡◌, take, length, arith, subst}
 use Rattle.std.specs.Prelude.{map, flat_map}
 use Rattle.hs_core.specs.WellTyped.{field_terms}
 use Rattle.kind_check.specs.Scopes.{decls_of, field_term}
 use Rattle.type_groups.specs.Uses.{with_numbers, uses_in}
-use Rattle.type_groups.proofs.UseLemmas.{joined, flat-next, take_end}
+use Rattle.type_groups.proofs.UseLemmas.{joined}
+use Rattle.kind_check.proofs.LoopLemmas.{flat_next, take_end}
 use Rattle.type_groups.proofs.uses.add_cons.Goals as goal
 
 pub loop-index-preserved : goal.loop-index-preserved
@@ -14,7 +15,7 @@ loop-index-preserved c ps =
     ≡ with_numbers c.loop-index.numbers (uses_in (decls_of c.args.decls.now) (map (field_term ps) fs)))
     c.as_slice.ensures (c.in_ok-add_fields.ensures ps))
     ∙ ap (λ ts. with_numbers c.args.numbers.now (uses_in (decls_of c.args.decls.now) ts))
-    (sym (flat-next (field_terms ps) c.args.cons.now c.loop-index.index c.index-cons-index.result
+    (sym (flat_next (field_terms ps) c.args.cons.now c.loop-index.index c.index-cons-index.result
     c.loop-index-test.true))
 
 pub returns : goal.returns

@@ -2,7 +2,8 @@ use Rattle.std.proofs.Common.{◌∙◌, ap, ◌≡◌, length, arith}
 use Rattle.std.specs.Prelude.{map}
 use Rattle.kind_check.specs.Scopes.{decls_of}
 use Rattle.type_groups.specs.Uses.{use_list}
-use Rattle.type_groups.proofs.UseLemmas.{uses_are, take_end}
+use Rattle.type_groups.proofs.UseLemmas.{uses_are}
+use Rattle.kind_check.proofs.LoopLemmas.{take_end}
 use Rattle.type_groups.proofs.uses.all_uses.Goals as goal
 
 pub returns : goal.returns

@@ -1,6 +1,6 @@
-use Rattle.std.proofs.Common.{◌≤◌, refl, sym, ap, ◌∙◌, true≢false, length, arith}
-use Rattle.std.proofs.lemmas.List.{drop_more, drop_all}
-use Rattle.type_groups.proofs.UseLemmas.{number_past, number_here, number_none}
+use Rattle.std.proofs.Common.{refl, sym, ◌∙◌, true≢false}
+use Rattle.std.proofs.lemmas.List.{drop_more}
+use Rattle.type_groups.proofs.UseLemmas.{number_past, number_here}
 use Rattle.type_groups.proofs.uses.place_of.Goals as goal
 
 pub returns-then-same_orig_name : goal.returns-then-same_orig_name
