@@ -80,7 +80,7 @@ filled-under i rs f k =
     filled-filled i (fills_under Hole rs) f (holes-filled (fills_under Hole rs) i (has-fills Hole rs i k))
     ∙ ap (filled i) (composed-under rs f)
 
-same-under : (s t : Text → Ident) (rs : List Rename) → ((r : Rename) → Among r rs → s r.to ≡ t r.to)
+pub same-under : (s t : Text → Ident) (rs : List Rename) → ((r : Rename) → Among r rs → s r.to ≡ t r.to)
     → fills_under s rs ≡ fills_under t rs
 same-under s t [] k = refl
 same-under s t (r ∷ rs) k = λ j.

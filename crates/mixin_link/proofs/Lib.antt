@@ -7,3 +7,4 @@ pub mod LinkLemmas
 pub mod LawfulLemmas
 pub mod NextLemmas
 pub mod WrittenLemmas
+pub mod OutcomeLemmas

@@ -12,7 +12,9 @@ use Rattle.bp_base.specs.Texts.{Text, Rise}
 use Rattle.cabal_component.specs.declared.component.Component.{Component}
 use Rattle.mixin_link.specs.declared.summary.Summary.{Summary}
 use Rattle.mixin_link.specs.Summaries.{own_unit, units_shown, AreLawful}
-use Rattle.mixin_link.specs.Answers.{in_order, IsLinkingOf}
+use Rattle.mixin_link.specs.Answers.{in_order, IsLinkingOf, IsRefusal}
+use Rattle.mixin_link.specs.declared.error.LinkError.{LinkError}
+use Rattle.mixin_link.specs.declared.error.LinkError.TheVariants as error
 use Rattle.unit_identity.specs.Fill.{at_hole}
 use Rattle.hole_unify.specs.declared.equation.IdentUnifyError.{IdentUnifyError}
 use Rattle.hole_unify.specs.declared.equation.IdentUnifyError.TheVariants.{NoMemory}
@@ -61,3 +63,9 @@ LinkingsAreLawful = (c : Component) (ss : List Summary) (l : Linking) (ps : List
     → ((u : OfUnit) → Among u (units_shown ss) → (out-Unit u).component ≡ c.name → ⊥)
     → ((p : Provision) → Among p ps → IsProvided c.name l p)
     → AreLawful (record { component = c.name; holes = l.holes; provisions = ps } ∷ ss)
+
+-- A component has at most one linking as an answer, and beside it no refusal but want of memory.
+abbrev pub LinkingHasOneOutcome : Type 0
+LinkingHasOneOutcome = (c : Component) (ss : List Summary) → AreLawful ss
+    → ((l k : Linking) → IsLinkingOf c ss l → IsLinkingOf c ss k → l ≡ k)
+    × ((l : Linking) (e : LinkError) → IsLinkingOf c ss l → IsRefusal c ss e → e ≡ error.NoMemory)

@@ -1,5 +1,6 @@
 //! Laws of the definitions.
-ghost use Rattle.mixin_link.specs.Laws.{LinkingsAreUnifiers, AnswersArePrincipal, PrincipalIsOne, CausesLeaveNone, NamesAreOrdered, LinkingsAreLawful};
+ghost use Rattle.mixin_link.specs.Laws.{LinkingsAreUnifiers, AnswersArePrincipal, PrincipalIsOne, CausesLeaveNone};
+ghost use Rattle.mixin_link.specs.Laws.{NamesAreOrdered, LinkingsAreLawful, LinkingHasOneOutcome};
 
 /// The linkings of a component are the unifiers of its equations.
 pub fn linkings_are_unifiers()
@@ -29,4 +30,9 @@ pub fn names_are_ordered()
 /// What a linked component provides meets the condition of `link_names` for the next component.
 pub fn linkings_are_lawful()
     ensures { LinkingsAreLawful }
+{}
+
+/// `link_names` has one answer at most, up to want of memory.
+pub fn linking_has_one_outcome()
+    ensures { LinkingHasOneOutcome }
 {}
