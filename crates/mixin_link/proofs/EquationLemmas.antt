@@ -26,6 +26,7 @@ use Rattle.mixin_link.specs.Laws.{LinkingsAreUnifiers}
 
 -- ---- what stands in a filtered list
 
+-- what passes the test is kept
 pub among-filter : {A : Type 0} (f : A → Bool) (a : A) (xs : List A) → Among a xs → f a ≡ true → Among a (filter f xs)
 among-filter f a [] h e = absurd h
 among-filter {A} f a (x ∷ xs) h e = by (f x) refl h (λ k. among-filter f a xs k e)
@@ -37,6 +38,7 @@ among-filter {A} f a (x ∷ xs) h e = by (f x) refl h (λ k. among-filter f a xs
     by false d (inl p) k = let t : f x ≡ true = ap f p ∙ e in cc
     by false d (inr m) k = k m
 
+-- what is kept was there, and passes the test
 pub filter-among : {A : Type 0} (f : A → Bool) (a : A) (xs : List A) → Among a (filter f xs) → Among a xs × (f a ≡ true)
 filter-among f a [] h = absurd h
 filter-among {A} f a (x ∷ xs) h = by (f x) refl h (filter-among f a xs)
@@ -80,12 +82,14 @@ filled-under i rs f k =
     filled-filled i (fills_under Hole rs) f (holes-filled (fills_under Hole rs) i (has-fills Hole rs i k))
     ∙ ap (filled i) (composed-under rs f)
 
+-- assignments that are equal at linkage names give an include the same fills
 pub same-under : (s t : Text → Ident) (rs : List Rename) → ((r : Rename) → Among r rs → s r.to ≡ t r.to)
     → fills_under s rs ≡ fills_under t rs
 same-under s t [] k = refl
 same-under s t (r ∷ rs) k = λ j.
     record { hole = r.from; ident = k r (inl refl) j } ∷ same-under s t rs (λ x a. k x (inr a)) j
 
+-- the fills of an assignment put at each of their names what it does
 pub at-for : (s : Text → Ident) (ns : List Text) (n : Text) → Among n ns → at_hole n (fills_for s ns) ≡ s n
 at-for s [] n a = absurd a
 at-for s (m ∷ ns) n a = by (bytes_eq m n) refl a (at-for s ns n)
@@ -99,6 +103,7 @@ at-for s (m ∷ ns) n a = by (bytes_eq m n) refl a (at-for s ns n)
 
 -- ---- where equations come from
 
+-- the provision that an equation is of
 pub record From (is : List OpenInclude) (name : Text) (e : Equation) : Type 0 where
   pub source : OpenInclude
   pub listed : Among source is
@@ -147,6 +152,7 @@ from-name name (x ∷ is) e a =
           }
     ]
 
+-- each provision at a required name has its equation
 pub among-equations : (ns : List Text) (is : List OpenInclude) (i : OpenInclude) (p : Provision) → Among p.name ns
     → Among i is → Among p i.provides → Among (equation i.needs p) (equations_of ns is)
 among-equations [] is i p r a b = absurd r
@@ -155,6 +161,7 @@ among-equations (n ∷ ns) is i p (inl e) a b = among-left (equation i.needs p) 
 among-equations (n ∷ ns) is i p (inr r) a b = among-right (equation i.needs p) (equations_at n is) (equations_of ns is)
     (among-equations ns is i p r a b)
 
+-- each equation is of a provision at a required name
 pub equation-from : (ns : List Text) (is : List OpenInclude) (e : Equation) → Among e (equations_of ns is)
     → (n : Text) × Among n ns × From is n e
 equation-from [] is e a = absurd a
@@ -177,6 +184,7 @@ all-stated : (es : List Equation) (f : List Fill) → ((e : Equation) → Among 
 all-stated [] f k = tt
 all-stated (x ∷ es) f k = (k x (inl refl), all-stated es f (λ e a. k e (inr a)))
 
+-- a unifier is a linking
 pub unifier-links : (required : List Text) (is : List OpenInclude) → AreOpen required is → (f : List Fill)
     → IsUnifier (equations_of required is) f → IsLinking required is (λ n. at_hole n f)
 unifier-links required is o f u = record {
@@ -184,6 +192,7 @@ unifier-links required is o f u = record {
       ∙ sym (stated (equations_of required is) f u (equation i.needs p) (among-equations required is i p r a b));
 }
 
+-- the fills of a linking are a unifier
 pub linking-unifies : (required : List Text) (is : List OpenInclude) → AreOpen required is → (s : Text → Ident)
     → IsLinking required is s → IsUnifier (equations_of required is) (fills_for s required)
 linking-unifies required is o s l = all-stated (equations_of required is) (fills_for s required) each

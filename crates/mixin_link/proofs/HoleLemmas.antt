@@ -79,9 +79,11 @@ module _ (f : List Fill) where
         (fills-filled u f ∙ all.1 (EachHole-fills (λ h. at_hole h f ≡ Hole h) u m k)))),
   )
 
+  -- fills that leave an identity as it is leave each of its holes as it is
   pub kept-holes : (i : Ident) → filled i f ≡ i → Keeps i
   kept-holes i = (ident-induction Both keeps-hole keeps-module i).0
 
+  -- fills that leave each hole of an identity as it is leave it as it is
   pub holes-kept : (i : Ident) → Keeps i → filled i f ≡ i
   holes-kept i = (ident-induction Both keeps-hole keeps-module i).1
 
@@ -108,6 +110,7 @@ module _ (f : List Fill) (Q : Text → Type 0) (each : (x : Fill) → Among x f 
       (subst (EachFill (EachHole Q)) (sym (fills-filled u f)) (held-fills (out-Unit u).fills h
       (EachHole-fills (HasFill f) u m k))))
 
+  -- what holds of each hole of the fills holds of each hole of what is filled
   pub holes-of-filled : (i : Ident) → EachHole (HasFill f) i → EachHole Q (filled i f)
   holes-of-filled i = ident-induction Held held-hole held-module i
 

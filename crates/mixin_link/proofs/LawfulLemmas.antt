@@ -78,6 +78,7 @@ module _ (f : List Fill) (each : (x : Fill) → Among x f → closed x.ident ≡
       is = ap closed (filled-Module u m f) ∙ closed-Module (filled_unit u f) m ∙ unit_closed-out (filled_unit u f)
           ∙ ap fills_closed (fills-filled u f)
 
+  -- no hole is left where, and only where, each hole has a fill
   pub closes : (i : Ident) → Closes i
   closes i = ident-induction Closes closes-hole closes-module i
 
@@ -197,6 +198,7 @@ shown-lawful ss l = record {
   rising = λ u a. l.rising u (units-in (flat_map idents_of ss) u a);
 }
 
+-- what the two parts of the test say
 pub lawful-tested : (ss : List Summary) (es : List Equation) (held alike lawful : Bool) → held ≡ summaries_held ss
     → es ≡ flat_map summary_equations ss → IsTrue alike ↔ IsLawful es → lawful ≡ held && alike
     → IsTrue lawful ↔ AreLawful ss

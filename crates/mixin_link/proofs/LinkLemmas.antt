@@ -47,6 +47,7 @@ open-given ss ms is signatures required l e r = subst (λ (x : List Text). AreOp
     (subst (λ (x : List OpenInclude). AreOpen (required_names signatures x) x) (sym e)
     (entries-open ss ms signatures l))
 
+-- the equations of such includes meet the condition of unification
 pub lawful-given : (ss : List Summary) (ms : List Mixin) (is : List OpenInclude) (required : List Text) → AreLawful ss
     → is ≡ map (open_in ss) ms → IsLawful (equations_of required is)
 lawful-given ss ms is required l e = subst (λ (x : List OpenInclude). IsLawful (equations_of required x)) (sym e)

@@ -59,6 +59,7 @@ ordered-old : (a : Text) (done ns : List Text) → Among a done → Among a (in_
 ordered-old a done [] h = h
 ordered-old a done (n ∷ ns) h = ordered-old a (insert_key (slice_cmp nat_cmp) done n) ns (insert-old a done n h)
 
+-- each name that is put in order stands there
 pub ordered-new : (a : Text) (done ns : List Text) → Among a ns → Among a (in_order done ns)
 ordered-new a done [] h = absurd h
 ordered-new a done (n ∷ ns) (inl e) = subst (λ (t : Text). Among t (in_order done (n ∷ ns))) e
@@ -186,6 +187,7 @@ brought-from exposed (r ∷ rs) p a =
       | inr h ↦ brought-from exposed rs p h
     ]
 
+-- what an entry brings is exposed
 pub provided-from : (x : Provides) (exposed : List Provision) (p : Provision) → Among p (provided x exposed)
     → Exposed exposed p
 provided-from Whole exposed p a = record { source = p; there = a; same = refl }

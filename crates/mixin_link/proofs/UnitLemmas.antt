@@ -62,7 +62,7 @@ each-fills P (f ∷ fs) k u a = elim (among-either u (units_of f.ident) (units_i
   | inr h ↦ each-fills P fs k.1 u h
 ]
 
-pub composed-holes : (fs g : List Fill) → map (λ (f : Fill). f.hole) (composed fs g) ≡ map (λ (f : Fill). f.hole) fs
+composed-holes : (fs g : List Fill) → map (λ (f : Fill). f.hole) (composed fs g) ≡ map (λ (f : Fill). f.hole) fs
 composed-holes [] g = refl
 composed-holes (f ∷ fs) g = ap (λ (l : List Text). f.hole ∷ l) (composed-holes fs g)
 
@@ -117,6 +117,7 @@ pub record IsShown (ss : List Summary) (u : OfUnit) : Type 0 where
   pub component : (out-Unit source).component ≡ (out-Unit u).component
   pub holes : holes_of source ≡ holes_of u
 
+-- filling keeps the component and the holes of a unit
 pub shown-filled : (ss : List Summary) (f : List Fill) (u : OfUnit) → IsShown ss u → IsShown ss (filled_unit u f)
 shown-filled ss f u s = record {
   source = s.source;
@@ -125,6 +126,7 @@ shown-filled ss f u s = record {
   holes = s.holes ∙ sym (holes-filled u f);
 }
 
+-- what stands in the list of an item stands in the joined lists
 pub among-flat : {A B : Type 0} (f : A → List B) (b : B) (xs : List A) (a : A) → Among a xs → Among b (f a)
     → Among b (flat_map f xs)
 among-flat f b [] a m k = absurd m
@@ -132,6 +134,7 @@ among-flat {A} f b (x ∷ xs) a (inl e) k = among-left b (f x) (flat_map f xs)
     (subst (λ (y : A). Among b (f y)) (sym e) k)
 among-flat f b (x ∷ xs) a (inr m) k = among-right b (f x) (flat_map f xs) (among-flat f b xs a m k)
 
+-- what stands in joined lists stands in the list of an item
 pub flat-among : {A B : Type 0} (f : A → List B) (b : B) (xs : List A) → Among b (flat_map f xs)
     → (a : A) × Among a xs × Among b (f a)
 flat-among f b [] m = absurd m
