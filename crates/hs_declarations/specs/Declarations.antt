@@ -10,6 +10,8 @@ use Rattle.hs_tokens.specs.declared.word.Word.TheVariants as w
 use Rattle.hs_trees.specs.Types.{spelling_type, depth_of_type, is_type, starts_atype}
 use Rattle.hs_modules.specs.ModuleTokens.{head_tokens}
 use Rattle.hs_modules.specs.ModuleForms.{is_unqualified}
+use Rattle.hs_trees.specs.Kinds.{spelling_kind, depth_of_kind}
+use Rattle.hs_declarations.specs.declared.kinded.Kinded.{Kinded}
 use Rattle.hs_declarations.specs.declared.synonyms.Synonym.{Synonym}
 
 abbrev pub is_equals : Terminal → Bool
@@ -30,3 +32,22 @@ synonym_form limit = record {
 
 abbrev pub synonym_sort : Option ℕ → Sort Terminal Synonym
 synonym_sort limit = record { form = synonym_form limit; depth = λ x. depth_of_type x.ty }
+
+abbrev pub is_data_word : Terminal → Bool
+is_data_word (t.Word w.Data) = true
+is_data_word _ = false
+
+abbrev pub is_double_colon : Terminal → Bool
+is_double_colon t.DoubleColon = true
+is_double_colon _ = false
+
+-- `data T :: * -> *`, in a signature
+abbrev pub kinded_form : Option ℕ → Form Terminal Kinded
+kinded_form limit = record {
+  tokens = λ x. t.Word w.Data ∷ t.Con x.name ∷ t.DoubleColon ∷ spelling_kind x.kind;
+  Good = λ x. (is_unqualified x.name ≡ true) × Within limit (depth_of_kind x.kind);
+  extends = λ x k. is_arrow k;
+}
+
+abbrev pub kinded_sort : Option ℕ → Sort Terminal Kinded
+kinded_sort limit = record { form = kinded_form limit; depth = λ x. depth_of_kind x.kind }
