@@ -337,49 +337,6 @@ module _ {X : Type 0} (e : Element X) where
       };
     }
 
-    -- no part: `)`
-    pub empty_ok : (ts rest : Ts) → ts ≡ t.RightParen ∷ rest →
-        Accepts (listed_form e may) (λ p. 0) ts ([], false) rest 0
-    empty_ok ts rest at = record {
-      spelled = at;
-      reads = record {
-        good = (refl, λ h. absurd (true≢false (sym h)));
-        only = λ s other after same good quiet is.
-            go s other.0 other.1 after is (ended false other.0 other.1 (t.RightParen ∷ s) after is e.no_close);
-      };
-      measured_is = refl;
-      room = omega (arith, ap length at);
-    }
-      where
-        go : (s : Ts) (ys : List X) (c : Bool) (after : Ts) →
-            t.RightParen ∷ s ≡ tail_tokens false e.tokens ys c ++ after → ys ≡ [] →
-            Ends ys c false × (after ≡ s)
-        go s [] true after is none = absurd cc
-        go s [] false after is none = (refl, cc)
-        go s (z ∷ zs) c after is none = absurd cc
-
-    -- no part: a comma alone
-    pub comma_ok : (ts next rest : Ts) → may ≡ true → ts ≡ t.Comma ∷ next → next ≡ t.RightParen ∷ rest →
-        Accepts (listed_form e may) (λ p. 0) ts ([], true) rest 0
-    comma_ok ts next rest m at shut = record {
-      spelled = at ∙ ap (λ l. t.Comma ∷ l) shut;
-      reads = record {
-        good = (refl, λ h. m);
-        only = λ s other after same good quiet is.
-            go s other.0 other.1 after is (ended false other.0 other.1 (t.Comma ∷ t.RightParen ∷ s) after is
-            e.no_comma);
-      };
-      measured_is = refl;
-      room = omega (arith, ap length at, ap length shut);
-    }
-      where
-        go : (s : Ts) (ys : List X) (c : Bool) (after : Ts) →
-            t.Comma ∷ t.RightParen ∷ s ≡ tail_tokens false e.tokens ys c ++ after → ys ≡ [] →
-            Ends ys c true × (after ≡ s)
-        go s [] true after is none = (refl, cc)
-        go s [] false after is none = absurd cc
-        go s (z ∷ zs) c after is none = absurd cc
-
     -- neither a part nor `)`, nor a comma that may stand alone
     pub empty_missed : (ts : Ts) → begins e.starter ts ≡ false → begins is_right_paren ts ≡ false →
         (may ≡ true → begins is_comma ts ≡ false) → Rejects (listed_form e may) ts (length ts)

@@ -1,15 +1,13 @@
 -- The returns of the readers of names, over plain variables.
-use Rattle.std.proofs.Common.{◌≡◌, ℕ, true, false, List, [], ◌∷◌, ◌++◌, length, refl, ap, ◌∙◌, arith}
-use Rattle.std.specs.Prelude.{not, ◌||◌, nat_eq}
+use Rattle.std.proofs.Common.{◌≡◌, ℕ, true, false, List, [], ◌∷◌, ◌++◌, length, refl, ap, ◌∙◌}
+use Rattle.std.specs.Prelude.{◌||◌, nat_eq}
 use Rattle.std.specs.List.{list_any}
 use Rattle.hs_forms.specs.Reading.{begins}
-use Rattle.hs_forms.specs.Answers.{Accepts, Rejects}
+use Rattle.hs_forms.specs.Answers.{Rejects}
 use Rattle.hs_tokens.specs.Terminals.{is_right_paren, is_var_sym}
 use Rattle.hs_tokens.specs.declared.terminal.Terminal.TheVariants as t
-use Rattle.hs_trees.specs.declared.patterns.VarTree.{VarTree}
 use Rattle.hs_trees.specs.declared.patterns.VarTree.TheVariants as v
 use Rattle.hs_modules.specs.Words.{has_dot, begins_with_colon}
-use Rattle.hs_modules.specs.declared.names.QVarTree.{QVarTree}
 use Rattle.hs_modules.specs.declared.names.QVarTree.TheVariants as q
 use Rattle.hs_modules.specs.declared.names.ConTree.TheVariants as c
 use Rattle.hs_modules.specs.declared.module.CNameTree.{CNameTree}
@@ -18,7 +16,7 @@ use Rattle.hs_headers.specs.Lists.{Ts}
 use Rattle.hs_headers.specs.Names.{is_left_paren, is_var, is_qvar, is_qvar_sym, is_own_con, is_own_con_sym, starts_var}
 use Rattle.hs_headers.specs.Names.{starts_qvar, starts_cname, is_symbol, is_cname_symbol, var_form, qvar_form}
 use Rattle.hs_headers.specs.Names.{cname_form}
-use Rattle.hs_headers.proofs.TurnLemmas.{tree_ok, Next, stuck}
+use Rattle.hs_headers.proofs.TurnLemmas.{Next, stuck}
 
 -- whether a dot stands in a text, by the search of the kit
 pub dot_listed : (text : List ℕ) → list_any (λ b. nat_eq b 46) text ≡ has_dot text
@@ -26,27 +24,6 @@ dot_listed [] = refl
 dot_listed (b ∷ bs) = ap (λ r. nat_eq b 46 || r) (dot_listed bs)
 
 -- var
-pub var_id_ok : (ts : Ts) (name : List ℕ) (rest : Ts) → ts ≡ t.Var name ∷ rest →
-    Accepts var_form (λ x. 0) ts (v.Id name) rest 0
-var_id_ok ts name rest at = tree_ok var_form ts (t.Var name ∷ []) rest (v.Id name) at (omega arith) refl tt
-    (λ s other after same good quiet e. go s other after e)
-  where
-    go : (s : Ts) (other : VarTree) (after : Ts) → t.Var name ∷ s ≡ var_form.tokens other ++ after → other ≡ v.Id name
-    go s (v.Id m) after e = let is : m ≡ name = cc in ap v.Id is
-    go s (v.Sym m) after e = absurd cc
-
-pub var_sym_ok : (ts : Ts) (name : List ℕ) (next rest : Ts) → ts ≡ t.VarSym name ∷ next →
-    next ≡ t.RightParen ∷ rest → Accepts var_form (λ x. 0) (t.LeftParen ∷ ts) (v.Sym name) rest 0
-var_sym_ok ts name next rest at shut =
-    tree_ok var_form (t.LeftParen ∷ ts) (t.LeftParen ∷ t.VarSym name ∷ t.RightParen ∷ []) rest (v.Sym name)
-    (ap (λ l. t.LeftParen ∷ l) (at ∙ ap (λ l. t.VarSym name ∷ l) shut)) (omega arith) refl tt
-    (λ s other after same good quiet e. go s other after e)
-  where
-    go : (s : Ts) (other : VarTree) (after : Ts) →
-        t.LeftParen ∷ t.VarSym name ∷ t.RightParen ∷ s ≡ var_form.tokens other ++ after → other ≡ v.Sym name
-    go s (v.Id m) after e = absurd cc
-    go s (v.Sym m) after e = let is : m ≡ name = cc in ap v.Sym is
-
 pub var_none : (ts : Ts) → begins is_var ts ≡ false → begins is_left_paren ts ≡ false → Rejects var_form ts (length ts)
 var_none ts p q = stuck var_form starts_var ts [] ts (t.Var [] ∷ []) (v.Id []) tt refl next refl (ends ts p q)
   where
@@ -81,58 +58,6 @@ var_open ts name next at p =
     follows (v.Sym m) s after good quiet e = let at : s ≡ t.RightParen ∷ after = cc in ap (begins is_right_paren) at
 
 -- qvar
-pub qvar_id_ok : (ts : Ts) (name : List ℕ) (rest : Ts) → ts ≡ t.Var name ∷ rest →
-    Accepts qvar_form (λ x. 0) ts (q.Id name) rest 0
-qvar_id_ok ts name rest at = tree_ok qvar_form ts (t.Var name ∷ []) rest (q.Id name) at (omega arith) refl tt
-    (λ s other after same good quiet e. go s other after e)
-  where
-    go : (s : Ts) (other : QVarTree) (after : Ts) → t.Var name ∷ s ≡ qvar_form.tokens other ++ after → other ≡ q.Id name
-    go s (q.Id m) after e = let is : m ≡ name = cc in ap q.Id is
-    go s (q.Sym m) after e = absurd cc
-    go s (q.QualifiedId m) after e = absurd cc
-    go s (q.QualifiedSym m) after e = absurd cc
-
-pub qvar_qualified_ok : (ts : Ts) (name : List ℕ) (rest : Ts) → ts ≡ t.QVar name ∷ rest →
-    Accepts qvar_form (λ x. 0) ts (q.QualifiedId name) rest 0
-qvar_qualified_ok ts name rest at =
-    tree_ok qvar_form ts (t.QVar name ∷ []) rest (q.QualifiedId name) at (omega arith) refl tt
-    (λ s other after same good quiet e. go s other after e)
-  where
-    go : (s : Ts) (other : QVarTree) (after : Ts) → t.QVar name ∷ s ≡ qvar_form.tokens other ++ after →
-        other ≡ q.QualifiedId name
-    go s (q.Id m) after e = absurd cc
-    go s (q.Sym m) after e = absurd cc
-    go s (q.QualifiedId m) after e = let is : m ≡ name = cc in ap q.QualifiedId is
-    go s (q.QualifiedSym m) after e = absurd cc
-
-pub qvar_sym_ok : (ts : Ts) (name : List ℕ) (next rest : Ts) → ts ≡ t.VarSym name ∷ next →
-    next ≡ t.RightParen ∷ rest → Accepts qvar_form (λ x. 0) (t.LeftParen ∷ ts) (q.Sym name) rest 0
-qvar_sym_ok ts name next rest at shut =
-    tree_ok qvar_form (t.LeftParen ∷ ts) (t.LeftParen ∷ t.VarSym name ∷ t.RightParen ∷ []) rest (q.Sym name)
-    (ap (λ l. t.LeftParen ∷ l) (at ∙ ap (λ l. t.VarSym name ∷ l) shut)) (omega arith) refl tt
-    (λ s other after same good quiet e. go s other after e)
-  where
-    go : (s : Ts) (other : QVarTree) (after : Ts) →
-        t.LeftParen ∷ t.VarSym name ∷ t.RightParen ∷ s ≡ qvar_form.tokens other ++ after → other ≡ q.Sym name
-    go s (q.Id m) after e = absurd cc
-    go s (q.Sym m) after e = let is : m ≡ name = cc in ap q.Sym is
-    go s (q.QualifiedId m) after e = absurd cc
-    go s (q.QualifiedSym m) after e = absurd cc
-
-pub qvar_qualified_sym_ok : (ts : Ts) (name : List ℕ) (next rest : Ts) → ts ≡ t.QVarSym name ∷ next →
-    next ≡ t.RightParen ∷ rest → Accepts qvar_form (λ x. 0) (t.LeftParen ∷ ts) (q.QualifiedSym name) rest 0
-qvar_qualified_sym_ok ts name next rest at shut =
-    tree_ok qvar_form (t.LeftParen ∷ ts) (t.LeftParen ∷ t.QVarSym name ∷ t.RightParen ∷ []) rest (q.QualifiedSym name)
-    (ap (λ l. t.LeftParen ∷ l) (at ∙ ap (λ l. t.QVarSym name ∷ l) shut)) (omega arith) refl tt
-    (λ s other after same good quiet e. go s other after e)
-  where
-    go : (s : Ts) (other : QVarTree) (after : Ts) →
-        t.LeftParen ∷ t.QVarSym name ∷ t.RightParen ∷ s ≡ qvar_form.tokens other ++ after → other ≡ q.QualifiedSym name
-    go s (q.Id m) after e = absurd cc
-    go s (q.Sym m) after e = absurd cc
-    go s (q.QualifiedId m) after e = absurd cc
-    go s (q.QualifiedSym m) after e = let is : m ≡ name = cc in ap q.QualifiedSym is
-
 pub qvar_none : (ts : Ts) → begins is_var ts ≡ false → begins is_qvar ts ≡ false → begins is_left_paren ts ≡ false →
     Rejects qvar_form ts (length ts)
 qvar_none ts p r l = stuck qvar_form starts_qvar ts [] ts (t.Var [] ∷ []) (q.Id []) tt refl next refl (ends ts p r l)
@@ -197,61 +122,6 @@ qvar_qualified_open ts name next at p =
         let at : s ≡ t.RightParen ∷ after = cc in ap (begins is_right_paren) at
 
 -- cname
-pub cname_var_ok : (ts : Ts) (name : List ℕ) (rest : Ts) → ts ≡ t.Var name ∷ rest →
-    Accepts cname_form (λ x. 0) ts (n.Var (v.Id name)) rest 0
-cname_var_ok ts name rest at = tree_ok cname_form ts (t.Var name ∷ []) rest (n.Var (v.Id name)) at (omega arith) refl
-    refl (λ s other after same good quiet e. go s other after e)
-  where
-    go : (s : Ts) (other : CNameTree) (after : Ts) → t.Var name ∷ s ≡ cname_form.tokens other ++ after →
-        other ≡ n.Var (v.Id name)
-    go s (n.Var (v.Id m)) after e = let is : m ≡ name = cc in ap (λ x. n.Var (v.Id x)) is
-    go s (n.Var (v.Sym m)) after e = absurd cc
-    go s (n.Con (c.Id m)) after e = absurd cc
-    go s (n.Con (c.Sym m)) after e = absurd cc
-
-pub cname_con_ok : (ts : Ts) (name : List ℕ) (rest : Ts) → ts ≡ t.Con name ∷ rest → has_dot name ≡ false →
-    Accepts cname_form (λ x. 0) ts (n.Con (c.Id name)) rest 0
-cname_con_ok ts name rest at own = tree_ok cname_form ts (t.Con name ∷ []) rest (n.Con (c.Id name)) at (omega arith)
-    refl (ap not own) (λ s other after same good quiet e. go s other after e)
-  where
-    go : (s : Ts) (other : CNameTree) (after : Ts) → t.Con name ∷ s ≡ cname_form.tokens other ++ after →
-        other ≡ n.Con (c.Id name)
-    go s (n.Var (v.Id m)) after e = absurd cc
-    go s (n.Var (v.Sym m)) after e = absurd cc
-    go s (n.Con (c.Id m)) after e = let is : m ≡ name = cc in ap (λ x. n.Con (c.Id x)) is
-    go s (n.Con (c.Sym m)) after e = absurd cc
-
-pub cname_var_sym_ok : (ts : Ts) (name : List ℕ) (next rest : Ts) → ts ≡ t.VarSym name ∷ next →
-    next ≡ t.RightParen ∷ rest → Accepts cname_form (λ x. 0) (t.LeftParen ∷ ts) (n.Var (v.Sym name)) rest 0
-cname_var_sym_ok ts name next rest at shut =
-    tree_ok cname_form (t.LeftParen ∷ ts) (t.LeftParen ∷ t.VarSym name ∷ t.RightParen ∷ []) rest (n.Var (v.Sym name))
-    (ap (λ l. t.LeftParen ∷ l) (at ∙ ap (λ l. t.VarSym name ∷ l) shut)) (omega arith) refl refl
-    (λ s other after same good quiet e. go s other after e)
-  where
-    go : (s : Ts) (other : CNameTree) (after : Ts) →
-        t.LeftParen ∷ t.VarSym name ∷ t.RightParen ∷ s ≡ cname_form.tokens other ++ after →
-        other ≡ n.Var (v.Sym name)
-    go s (n.Var (v.Id m)) after e = absurd cc
-    go s (n.Var (v.Sym m)) after e = let is : m ≡ name = cc in ap (λ x. n.Var (v.Sym x)) is
-    go s (n.Con (c.Id m)) after e = absurd cc
-    go s (n.Con (c.Sym m)) after e = absurd cc
-
-pub cname_con_sym_ok : (ts : Ts) (name : List ℕ) (next rest : Ts) → ts ≡ t.ConSym name ∷ next →
-    begins_with_colon name ≡ true → next ≡ t.RightParen ∷ rest →
-    Accepts cname_form (λ x. 0) (t.LeftParen ∷ ts) (n.Con (c.Sym name)) rest 0
-cname_con_sym_ok ts name next rest at own shut =
-    tree_ok cname_form (t.LeftParen ∷ ts) (t.LeftParen ∷ t.ConSym name ∷ t.RightParen ∷ []) rest (n.Con (c.Sym name))
-    (ap (λ l. t.LeftParen ∷ l) (at ∙ ap (λ l. t.ConSym name ∷ l) shut)) (omega arith) refl own
-    (λ s other after same good quiet e. go s other after e)
-  where
-    go : (s : Ts) (other : CNameTree) (after : Ts) →
-        t.LeftParen ∷ t.ConSym name ∷ t.RightParen ∷ s ≡ cname_form.tokens other ++ after →
-        other ≡ n.Con (c.Sym name)
-    go s (n.Var (v.Id m)) after e = absurd cc
-    go s (n.Var (v.Sym m)) after e = absurd cc
-    go s (n.Con (c.Id m)) after e = absurd cc
-    go s (n.Con (c.Sym m)) after e = let is : m ≡ name = cc in ap (λ x. n.Con (c.Sym x)) is
-
 pub cname_starts : (x : CNameTree) → (s after : Ts) → cname_form.Good x → s ≡ cname_form.tokens x ++ after →
     begins starts_cname s ≡ true
 cname_starts (n.Var (v.Id m)) s after good e = ap (begins starts_cname) e
