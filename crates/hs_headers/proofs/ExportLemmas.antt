@@ -71,7 +71,8 @@ subs_all_ok ts next behind rest at dots shut =
     go : (s : Ts) (other : SubsTree) (after : Ts) →
         t.LeftParen ∷ t.DotDot ∷ t.RightParen ∷ s ≡ subs_form.tokens other ++ after → other ≡ u.All
     go s u.All after e = refl
-    go s (u.Only names) after e = absurd (true≢false (no_dots names _ after (inside cname_tokens names false _ after e)))
+    go s (u.Only names) after e = absurd (true≢false (no_dots names _ after (inside cname_tokens names false _ after
+        e)))
 
 pub subs_none : (ts : Ts) → begins is_left_paren ts ≡ false → Rejects subs_form ts (length ts)
 subs_none ts p =

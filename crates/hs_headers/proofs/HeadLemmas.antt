@@ -46,7 +46,8 @@ head_no_name ts p =
         let at : s ≡ t.Con m ∷ ((exports_tokens y ++ t.Word w.Where ∷ []) ++ after) = cc in ap (begins is_con) at
 
 exporting : (name : List ℕ) →
-    Turn module_head_form (name_front name) is_where_word false (closed exports_form (t.Word w.Where)) (h.Exporting name)
+    Turn module_head_form (name_front name) is_where_word false (closed exports_form (t.Word w.Where)) (h.Exporting
+    name)
 exporting name = record {
   tokens = λ y good. refl;
   good = λ y good. good;
@@ -110,13 +111,15 @@ signature_none ts p =
 pub signature_no_name : (ts next : Ts) → ts ≡ t.Var (codes "signature") ∷ next → begins is_con next ≡ false →
     Rejects signature_head_form ts (length next)
 signature_no_name ts next at p =
-    stuck signature_head_form is_con ts (t.Var (codes "signature") ∷ []) next (t.Con [] ∷ t.Word w.Where ∷ []) [] tt refl
+    stuck signature_head_form is_con ts (t.Var (codes "signature") ∷ []) next (t.Con [] ∷ t.Word w.Where ∷ []) [] tt
+    refl
     (λ x s after good quiet e. (let is : s ≡ t.Con x ∷ t.Word w.Where ∷ after = cc in ap (begins is_con) is)) at p
 
 pub signature_open : (ts next behind : Ts) (name : List ℕ) → ts ≡ t.Var (codes "signature") ∷ next →
     next ≡ t.Con name ∷ behind → begins is_where_word behind ≡ false → Rejects signature_head_form ts (length behind)
 signature_open ts next behind name at named p =
-    stuck signature_head_form is_where_word ts (t.Var (codes "signature") ∷ t.Con name ∷ []) behind (t.Word w.Where ∷ [])
+    stuck signature_head_form is_where_word ts (t.Var (codes "signature") ∷ t.Con name ∷ []) behind (t.Word w.Where
+    ∷ [])
     name tt refl
     (λ x s after good quiet e. (let is : s ≡ t.Word w.Where ∷ after = cc in ap (begins is_where_word) is))
     (at ∙ ap (λ l. t.Var (codes "signature") ∷ l) named) p

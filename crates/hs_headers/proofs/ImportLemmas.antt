@@ -39,7 +39,8 @@ only_listed = record {
     only (l.Only items b) s after good e = ((items, b), refl, (good.0, λ c. refl))
     only (l.Hiding items b) s after good e = absurd cc
 
-pub hidden_listed : Turn list_form (t.Var (codes "hiding") ∷ t.LeftParen ∷ []) none false (listed_form item_element true)
+pub hidden_listed : Turn list_form (t.Var (codes "hiding") ∷ t.LeftParen ∷ []) none false (listed_form item_element
+    true)
     (λ p. l.Hiding p.0 p.1)
 hidden_listed = record {
   tokens = λ p good. ap (λ ts. t.Var (codes "hiding") ∷ ts) (listed_is item_tokens p.0 p.1);
@@ -170,7 +171,8 @@ alias_listed name alias = record {
 pub name_ok : (name : List ℕ) (ts : Ts) → begins is_as_word ts ≡ false → begins starts_list ts ≡ false →
     Accepts imported_form (λ x. 0) (t.Con name ∷ ts) (imported name None l.Everything) ts 0
 name_ok name ts p r =
-    tree_ok imported_form (t.Con name ∷ ts) (t.Con name ∷ []) ts (imported name None l.Everything) refl (omega arith) refl
+    tree_ok imported_form (t.Con name ∷ ts) (t.Con name ∷ []) ts (imported name None l.Everything) refl (omega
+    arith) refl
     refl (λ s other after same good quiet e. go other.modid other.alias other.list s after
     (begins_same is_as_word ts s same ∙ p) (begins_same starts_list ts s same ∙ r) e)
   where

@@ -18,10 +18,12 @@ returns-in_default-after_double_colon c =
 pub returns-in_err-kind : goal.returns-in_err-kind
 returns-in_err-kind c =
     let p = err_from_is_err_and c.from_residual.result c.from_residual.ensures.1 in
-    rw (p.1, p.2) (kinded_fails c.args.limit _ c.in-Some-after_own_con.ensures.1 c.args.tokens.now _ _ _ _ c.in-Some.ensures
+    rw (p.1, p.2) (kinded_fails c.args.limit _ c.in-Some-after_own_con.ensures.1 c.args.tokens.now _ _ _ _
+    c.in-Some.ensures
     c.in-Some-after_own_con.ensures.0 c.in-Some-after_double_colon.ensures c.in_err-kind.ensures)
 
 pub returns : goal.returns
 returns c =
-    rw (c.in_ok-name.ensures, c.as_bytes.ensures) (kinded_ok c.args.limit _ c.in-Some-after_own_con.ensures.1 c.args.tokens.now _ _ _ _ _ _
+    rw (c.in_ok-name.ensures, c.as_bytes.ensures) (kinded_ok c.args.limit _ c.in-Some-after_own_con.ensures.1
+    c.args.tokens.now _ _ _ _ _ _
     c.in-Some.ensures c.in-Some-after_own_con.ensures.0 c.in-Some-after_double_colon.ensures c.in_ok-kind.ensures)

@@ -12,5 +12,6 @@ returns-then-not-begins_qvar c =
 pub returns-in_err-var : goal.returns-in_err-var
 returns-in_err-var c =
     let p = err_from_is_err_and c.from_residual.result c.from_residual.ensures.1 in
-    rw (p.1, p.2) (turn_fails _ _ _ _ _ _ (export_var) c.args.tokens.now _ _ refl (sym c.begins_qvar.ensures ∙ c.if-not-begins_qvar.false)
+    rw (p.1, p.2) (turn_fails _ _ _ _ _ _ (export_var) c.args.tokens.now _ _ refl (sym c.begins_qvar.ensures ∙
+    c.if-not-begins_qvar.false)
     c.in_err-var.ensures)

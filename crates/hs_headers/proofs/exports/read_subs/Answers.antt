@@ -9,11 +9,13 @@ returns-in_default c =
 
 pub returns-in_default-after_right_paren : goal.returns-in_default-after_right_paren
 returns-in_default-after_right_paren c =
-    subs_dots_open c.args.tokens.now _ _ c.in-Some.ensures c.in-Some-after_dots.ensures c.in_default-after_right_paren.ensures
+    subs_dots_open c.args.tokens.now _ _ c.in-Some.ensures c.in-Some-after_dots.ensures
+    c.in_default-after_right_paren.ensures
 
 pub returns-in-Some-after_dots : goal.returns-in-Some-after_dots
 returns-in-Some-after_dots c =
-    subs_all_ok c.args.tokens.now _ _ _ c.in-Some.ensures c.in-Some-after_dots.ensures c.in-Some-after_right_paren.ensures
+    subs_all_ok c.args.tokens.now _ _ _ c.in-Some.ensures c.in-Some-after_dots.ensures
+    c.in-Some-after_right_paren.ensures
 
 pub returns-in_err-list : goal.returns-in_err-list
 returns-in_err-list c =

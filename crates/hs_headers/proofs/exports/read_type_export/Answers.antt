@@ -8,7 +8,8 @@ use Rattle.hs_headers.proofs.exports.read_type_export.Goals as goal
 pub returns-in_err-subs : goal.returns-in_err-subs
 returns-in_err-subs c =
     let p = err_from_is_err_and c.from_residual-in_err-subs.result c.from_residual-in_err-subs.ensures.1 in
-    rw (p.1, p.2) (turn_fails _ _ _ _ _ _ (export_names c.args.name.now) (t.Con c.args.name.now ∷ c.args.tokens.now) _ _ refl (sym c.begins_left_paren.ensures ∙ c.if-not-begins_left_paren.false)
+    rw (p.1, p.2) (turn_fails _ _ _ _ _ _ (export_names c.args.name.now) (t.Con c.args.name.now ∷ c.args.tokens.now)
+    _ _ refl (sym c.begins_left_paren.ensures ∙ c.if-not-begins_left_paren.false)
     c.in_err-subs.ensures)
 
 pub returns : goal.returns

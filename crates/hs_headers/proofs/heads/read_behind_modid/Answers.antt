@@ -14,5 +14,6 @@ returns-in_default-after_where c =
 
 pub returns : goal.returns
 returns c =
-    rw (c.in_ok-name.ensures, c.as_bytes.ensures) (exporting_ok c.args.name.now c.args.tokens.now c.in_default.ensures _ _ _ _
+    rw (c.in_ok-name.ensures, c.as_bytes.ensures) (exporting_ok c.args.name.now c.args.tokens.now
+    c.in_default.ensures _ _ _ _
     c.in_ok-exports.ensures c.in-Some-after_where.ensures)

@@ -11,4 +11,5 @@ returns-in_default-after_con c =
 
 pub returns-in_default-after_where : goal.returns-in_default-after_where
 returns-in_default-after_where c =
-    signature_open c.args.tokens.now _ _ _ c.in-Some.ensures c.in-Some-after_con.ensures c.in_default-after_where.ensures
+    signature_open c.args.tokens.now _ _ _ c.in-Some.ensures c.in-Some-after_con.ensures
+    c.in_default-after_where.ensures

@@ -20,4 +20,5 @@ returns-in_err-list c =
 pub returns : goal.returns
 returns c =
     rw (c.in_ok-modid.ensures, c.as_bytes.ensures, c.in_ok-alias.ensures, c.as_bytes-2.ensures) (turn_ok _ _ _ _ _ _
-    (alias_listed c.args.name.now c.args.alias.now) _ _ _ _ _ refl (sym c.begins_list.ensures ∙ c.if-not-begins_list.false) c.in_ok-list.ensures)
+    (alias_listed c.args.name.now c.args.alias.now) _ _ _ _ _ refl (sym c.begins_list.ensures ∙
+    c.if-not-begins_list.false) c.in_ok-list.ensures)

@@ -22,7 +22,8 @@ returns-in_err-part c =
 pub returns-in-Some-after_qualified : goal.returns-in-Some-after_qualified
 returns-in-Some-after_qualified c =
     turn_ok _ _ _ _ _ _ import_qualified c.args.tokens.now _ c.in_ok-part.part.tree _ _
-    (c.in-Some.ensures ∙ ap (λ l. t.Word w.Import ∷ l) c.in-Some-after_qualified.ensures) (passes_none _) c.in_ok-part.ensures
+    (c.in-Some.ensures ∙ ap (λ l. t.Word w.Import ∷ l) c.in-Some-after_qualified.ensures) (passes_none _)
+    c.in_ok-part.ensures
 
 pub returns-in_err-part-2 : goal.returns-in_err-part-2
 returns-in_err-part-2 c =

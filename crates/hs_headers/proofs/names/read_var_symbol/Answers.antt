@@ -5,4 +5,5 @@ pub returns-in_default : goal.returns-in_default
 returns-in_default c = var_no_symbol c.args.tokens.now c.in_default.ensures
 
 pub returns-in_default-after_right_paren : goal.returns-in_default-after_right_paren
-returns-in_default-after_right_paren c = var_open c.args.tokens.now _ _ c.in-Some.ensures c.in_default-after_right_paren.ensures
+returns-in_default-after_right_paren c = var_open c.args.tokens.now _ _ c.in-Some.ensures
+    c.in_default-after_right_paren.ensures
