@@ -1,0 +1,5 @@
+//! Worked values of `project_order`.
+#![tactic(auto)]
+
+#[cfg(test)]
+mod tests;

@@ -1,0 +1,4 @@
+pub mod LimitLemmas
+pub mod FileLemmas
+pub mod OnceLemmas
+pub mod TextLemmas
