@@ -2,3 +2,4 @@ pub mod LimitLemmas
 pub mod FileLemmas
 pub mod OnceLemmas
 pub mod TextLemmas
+pub mod ProjectLemmas

@@ -4,6 +4,7 @@
 mod files;
 mod law;
 mod once;
+mod project;
 mod texts;
 
 pub use files::whole_file;
@@ -12,4 +13,5 @@ pub use law::{
     refused_names_are_defects, texts_have_one_outcome,
 };
 pub use once::told_apart;
+pub use project::{Package, Packages, read_package, read_packages};
 pub use texts::{components_at, package_files};
