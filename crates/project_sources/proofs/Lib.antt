@@ -3,3 +3,4 @@ pub mod FileLemmas
 pub mod OnceLemmas
 pub mod TextLemmas
 pub mod ProjectLemmas
+pub mod PackageLemmas

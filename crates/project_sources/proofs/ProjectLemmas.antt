@@ -1,5 +1,5 @@
 -- Package files on their way.
-use Rattle.std.proofs.Common.{◌≡◌, inl, inr, ℕ, ◌+◌, ◌<◌, ◌≤◌, Option, Some, List, [], ◌∷◌, ◌++◌, Ok, Err, refl, sym, subst}
+use Rattle.std.proofs.Common.{◌≡◌, inl, inr, ℕ, ◌+◌, ◌<◌, ◌≤◌, Option, List, [], ◌∷◌, ◌++◌, Ok, Err, refl, sym, subst}
 use Rattle.std.proofs.Common.{drop, length, get_or, arith}
 use Rattle.bp_checks.specs.Check.{Check, Through}
 use Rattle.bp_checks.proofs.CheckLemmas.{Through-start}

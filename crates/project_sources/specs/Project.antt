@@ -1,5 +1,5 @@
 -- A project: its package files in order, with what was read of them.
-use Rattle.std.specs.Prelude.{◌≡◌, ◌+◌, ℕ, List, [], ◌∷◌, length, codes}
+use Rattle.std.specs.Prelude.{◌+◌, ℕ, List, [], ◌∷◌, length}
 use Rattle.bp_base.specs.Texts.{Text}
 use Rattle.bp_checks.specs.Check.{Check, ◌>>=◌, given, each}
 use Rattle.bp_checks.specs.Refused.{Refused}

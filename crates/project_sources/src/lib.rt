@@ -9,8 +9,8 @@ mod texts;
 
 pub use files::whole_file;
 pub use law::{
-    components_have_one_outcome, files_have_one_outcome, refused_files_are_defects,
-    refused_names_are_defects, texts_have_one_outcome,
+    components_have_one_outcome, files_have_one_outcome, packages_have_one_outcome,
+    refused_files_are_defects, refused_names_are_defects, texts_have_one_outcome,
 };
 pub use once::told_apart;
 pub use project::{Package, Packages, read_package, read_packages};

@@ -1,4 +1,4 @@
-use Rattle.std.proofs.Common.{rules, arith, sym, ap, ◌∙◌}
+use Rattle.std.proofs.Common.{rules, arith}
 use Rattle.std.proofs.lemmas.Result.{err_from_is_err_and}
 use Rattle.project_sources.proofs.ProjectLemmas.{package_stopped, package_refused, package_told}
 use Rattle.project_sources.proofs.project.read_package.Goals as goal

@@ -1,6 +1,6 @@
-use Rattle.std.proofs.Common.{rules, arith, ◌∙◌}
+use Rattle.std.proofs.Common.{◌∙◌}
 use Rattle.std.proofs.lemmas.Result.{err_from_is_err_and}
-use Rattle.project_sources.proofs.ProjectLemmas.{packages_start, packages_stopped, packages_more, packages_end, total_more}
+use Rattle.project_sources.proofs.ProjectLemmas.{packages_stopped, packages_more, packages_end, total_more}
 use Rattle.project_sources.proofs.project.read_packages.Goals as goal
 
 pub returns-in_err-found-clause-tells : goal.returns-in_err-found-clause-tells

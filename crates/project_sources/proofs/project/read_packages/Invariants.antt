@@ -1,4 +1,4 @@
-use Rattle.std.proofs.Common.{◌≡◌, ◌+◌, ◌≤◌, Some, List, drop}
+use Rattle.std.proofs.Common.{◌≡◌, ◌+◌, Some, List, drop}
 use Rattle.bp_edges.specs.declared.files.File.{File}
 use Rattle.bp_checks.specs.Check.{Through}
 use Rattle.project_sources.specs.Project.{total}
