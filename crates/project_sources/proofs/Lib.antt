@@ -4,3 +4,4 @@ pub mod OnceLemmas
 pub mod TextLemmas
 pub mod ProjectLemmas
 pub mod PackageLemmas
+pub mod WholeLemmas

@@ -13,5 +13,5 @@ pub use law::{
     refused_files_are_defects, refused_names_are_defects, texts_have_one_outcome,
 };
 pub use once::told_apart;
-pub use project::{Package, Packages, read_package, read_packages};
+pub use project::{Package, Packages, Project, read_files, read_package, read_packages};
 pub use texts::{components_at, package_files};

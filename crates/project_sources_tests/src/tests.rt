@@ -2,7 +2,7 @@ use bp_base::{Bytes, Defect, Item, Path, defect_code};
 use bp_checks::Stop;
 use bp_edges::{Calls, File, Files, MemTree};
 use cabal_component::Components;
-use project_sources::{Packages, package_files, read_packages, told_apart, whole_file};
+use project_sources::{Package, package_files, read_files, read_packages, told_apart, whole_file};
 use sqlite_items::Items;
 use std::alloc::{AllocError, Global};
 use std::process::Abort;
@@ -96,9 +96,9 @@ fn files(alloc: Global, row: &[u8]) -> Result<Files, AllocError> {
     Ok(Files::from_vec(all))
 }
 
-fn components(alloc: Global, packages: Packages) -> Result<Components, AllocError> {
+fn components(alloc: Global, packages: &[Package]) -> Result<Components, AllocError> {
     let mut all = Items::new(alloc);
-    for package in packages.as_slice() {
+    for package in packages {
         for component in package.components.as_slice() {
             all.push(component.copied(alloc)?)?;
         }
@@ -112,9 +112,14 @@ fn read(alloc: Global, tree: &mut MemTree, seen: u64) -> Result<Components, Stop
     let paths = package_files(alloc, content.as_bytes())?;
     let seen = seen.saturating_add(content.as_bytes().len() as u64);
     let packages = read_packages(alloc, tree, seen, paths.as_slice())?;
-    let all = components(alloc, packages)?;
+    let all = components(alloc, packages.as_slice())?;
     told_apart(alloc, all.as_slice())?;
     Ok(all)
+}
+
+fn read_whole(alloc: Global, tree: &mut MemTree) -> Result<Components, Stop> {
+    let project = read_files(alloc, tree)?;
+    Ok(components(alloc, project.packages.as_slice())?)
 }
 
 fn push_word(out: &mut Vec<u8>, word: &[u8]) -> Result<(), AllocError> {
@@ -163,7 +168,11 @@ fn rows(rt: HostRuntime) -> Result<(), Fail> {
     for (row, seen, fails, wanted) in ROWS {
         let calls = Calls::from_vec(vec![in alloc; fails]?);
         let mut tree = MemTree::new(files(alloc, row)?, calls);
-        let answer = read(alloc, &mut tree, seen);
+        let answer = if seen == 0 {
+            read_whole(alloc, &mut tree)
+        } else {
+            read(alloc, &mut tree, seen)
+        };
         let found = shown(alloc, &answer)?;
         assert_eq!(rt; found.as_slice(), wanted);
     }
