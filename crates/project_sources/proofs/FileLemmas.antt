@@ -7,8 +7,8 @@ use Rattle.bp_base.specs.Texts.{Text}
 use Rattle.bp_base.specs.declared.code.Code.TheVariants.{NoSource}
 use Rattle.bp_base.specs.declared.defect.Defect.{Defect}
 use Rattle.bp_base.specs.declared.defect.Item.TheVariants.{Named}
-use Rattle.bp_checks.specs.Check.{Check, IsExact, IsWithin, ◌>>◌, given}
-use Rattle.bp_checks.specs.Refused.{Refused, Wrong, Passed, IsWrong, defect_at}
+use Rattle.bp_checks.specs.Check.{IsExact, IsWithin}
+use Rattle.bp_checks.specs.Refused.{Refused, Wrong, IsWrong, defect_at}
 use Rattle.bp_checks.specs.Stop.{OnStop, Tells}
 use Rattle.bp_checks.specs.declared.stop.Stop.{Stop}
 use Rattle.bp_checks.specs.declared.stop.Stop.TheVariants as s

@@ -1,7 +1,7 @@
 -- A limit has one outcome.
-use Rattle.std.proofs.Common.{◌≡◌, ◌≤◌, ◌<◌, ℕ, Option, Some, None, refl, sym, ◌∙◌, subst, arith}
+use Rattle.std.proofs.Common.{◌≡◌, ℕ, Option, Some, None, refl, sym, ◌∙◌, subst, arith}
 use Rattle.bp_base.specs.declared.defect.LimitHit.{LimitHit}
-use Rattle.bp_checks.specs.Check.{IsExact, IsWithin, given}
+use Rattle.bp_checks.specs.Check.{IsExact, IsWithin}
 use Rattle.bp_checks.specs.Refused.{Refused, Passed, IsWrong}
 use Rattle.bp_checks.proofs.CheckLemmas.{IsExact-given, IsWithin-given}
 use Rattle.project_sources.specs.Limits.{at_most}

@@ -1,10 +1,10 @@
 -- Components that are told apart: one outcome.
-use Rattle.std.proofs.Common.{◌≡◌, ℕ, Option, Some, None, List, [], length, refl, sym, ap, ◌∙◌}
+use Rattle.std.proofs.Common.{◌≡◌, Option, Some, List, [], length, refl, sym, ap, ◌∙◌}
 use Rattle.bp_base.specs.Texts.{Text}
 use Rattle.bp_base.specs.declared.code.Code.TheVariants.{TwiceComponent}
 use Rattle.bp_base.specs.declared.defect.Item.TheVariants.{Nothing}
 use Rattle.bp_checks.specs.Check.{IsExact, IsWithin}
-use Rattle.bp_checks.specs.Refused.{Refused, Wrong, IsWrong, defect_at}
+use Rattle.bp_checks.specs.Refused.{Wrong, IsWrong, defect_at}
 use Rattle.bp_checks.proofs.CheckLemmas.{IsExact-then, IsWithin-then}
 use Rattle.cabal_component.specs.declared.component.Component.{Component}
 use Rattle.project_sources.specs.Limits.{Limits, unlimited}

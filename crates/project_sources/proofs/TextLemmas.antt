@@ -1,14 +1,13 @@
 -- A project file and a package file have one outcome.
-use Rattle.std.proofs.Common.{◌≡◌, ℕ, Option, Some, None, List, [], ◌∷◌, refl, sym, ap, ◌∙◌, subst}
+use Rattle.std.proofs.Common.{◌≡◌, ℕ, Option, Some, List, [], sym, ap, ◌∙◌}
 use Rattle.bp_base.specs.Texts.{Text}
-use Rattle.bp_base.specs.declared.code.Code.{Code}
 use Rattle.bp_base.specs.declared.code.Code.TheVariants.{ProjectSyntax, ComponentSyntax}
 use Rattle.bp_base.specs.declared.defect.Item.TheVariants.{Line}
 use Rattle.bp_checks.specs.Check.{IsExact}
-use Rattle.bp_checks.specs.Refused.{Refused, Wrong, defect_at}
+use Rattle.bp_checks.specs.Refused.{Wrong, defect_at}
 use Rattle.cabal_text.specs.Lines.{kept_lines}
 use Rattle.cabal_text.specs.Least.{least_of}
-use Rattle.cabal_stanzas.specs.Project.{project_files, project_refused, first_of}
+use Rattle.cabal_stanzas.specs.Project.{project_refused, first_of}
 use Rattle.cabal_component.specs.Package.{package_refused}
 use Rattle.project_sources.specs.Texts.{package_files, components_at}
 

@@ -2,3 +2,4 @@ pub mod Limits
 pub mod Reading
 pub mod Once
 pub mod Texts
+pub mod Project

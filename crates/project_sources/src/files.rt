@@ -1,5 +1,5 @@
 //! Reading one file of a project.
-ghost use Rattle.std.specs.Prelude.{◌≡◌, false, List, IfOk};
+ghost use Rattle.std.specs.Prelude.{◌≡◌, ◌≤◌, ◌+◌, false, length, List, IfOk};
 ghost use Rattle.bp_base.specs.declared.code.Code.TheVariants.{NoSource};
 ghost use Rattle.bp_base.specs.declared.defect.Item.TheVariants.{Named};
 ghost use Rattle.bp_checks.specs.Refused.{defect_at};
@@ -33,6 +33,7 @@ fn no_source(alloc: Global, component: &[u8], at: &[u8], path: &Path) -> Result<
 fn sized(bytes: Bytes, seen: u64) -> Result<Bytes, Stop>
     ensures stops { Stops (sized limited seen bytes) result }
     ensures no_fault { read_failed result ≡ false }
+    ensures within { IfOk result (λ content. seen + length content ≤ 33554432) }
 {
     let len = bytes.as_bytes().len();
     if len > FILE_BYTES {
@@ -64,6 +65,7 @@ pub fn whole_file<T: Tree>(
     ensures tells { Tells (T.files tree.old) (λ (files : List File). whole_file limited files seen component.now at.now path.now) result }
     ensures kept { T.files tree.new ≡ T.files tree.old }
     ensures counted { IsCounted (read_failed result) (T.faults tree.old) (T.faults tree.new) }
+    ensures within { IfOk result (λ content. seen + length content ≤ 33554432) }
 {
     match tree.read(alloc, path) {
         Ok(None) => Err(Stop::Refused(no_source(alloc, component, at, path)?)),

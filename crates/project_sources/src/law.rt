@@ -8,6 +8,7 @@ ghost use Rattle.cabal_component.specs.declared.component.Component.{Component};
 ghost use Rattle.project_sources.specs.Limits.{Limits, unlimited};
 ghost use Rattle.project_sources.specs.Reading.{whole_file};
 ghost use Rattle.project_sources.specs.Once.{told_apart};
+ghost use Rattle.project_sources.specs.Project.{packages_at};
 ghost use Rattle.project_sources.specs.Texts.{package_files, components_at};
 
 /// A file has one content, or one refusal.
@@ -36,4 +37,11 @@ pub fn refused_files_are_defects()
 /// The same of components that are told apart.
 pub fn refused_names_are_defects()
     ensures { (l : Limits) (cs : List Component) → IsWithin IsWrong (told_apart l cs) (told_apart unlimited cs) }
+{}
+
+/// Package files have one content, or one refusal; and a defect is one without limits too.
+pub fn packages_have_one_outcome()
+    ensures one { (l : Limits) (files : List File) (seen : ℕ) (paths : List Text) → IsExact (packages_at l files seen paths) }
+    ensures within { (l : Limits) (files : List File) (seen : ℕ) (paths : List Text)
+        → IsWithin IsWrong (packages_at l files seen paths) (packages_at unlimited files seen paths) }
 {}

@@ -1,0 +1,5 @@
+//! Worked values of `project_sources`.
+#![tactic(auto)]
+
+#[cfg(test)]
+mod tests;
