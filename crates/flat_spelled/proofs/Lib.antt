@@ -1,3 +1,4 @@
 pub mod SeenLemmas
 pub mod PatternLemmas
 pub mod TypeLemmas
+pub mod LayerLemmas
