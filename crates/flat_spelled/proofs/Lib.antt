@@ -2,3 +2,4 @@ pub mod SeenLemmas
 pub mod PatternLemmas
 pub mod TypeLemmas
 pub mod LayerLemmas
+pub mod SideLayerLemmas

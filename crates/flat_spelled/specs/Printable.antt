@@ -16,6 +16,7 @@ use Rattle.std.specs.Prelude.{not, nat_lt, List, [], ◌∷◌, map, ◌==◌}
 use Rattle.std.specs.Str.{bytes_eq}
 use Rattle.hs_forms.specs.Limits.{all_of}
 use Rattle.hs_tokens.specs.Terminals.{minus}
+use Rattle.hs_modules.specs.Words.{has_dot, begins_with_colon}
 use Rattle.hs_core.specs.declared.tree.Decl.{Decl}
 use Rattle.hs_core.specs.declared.tree.Decl.TheVariants.{DataDecl, SynonymDecl, TypeSig, FixityOf, Clause, PatBind}
 use Rattle.hs_core.specs.declared.tree.Exp.{Exp}
@@ -103,7 +104,24 @@ abbrev pub is_some : {A : Type 0} → List A → Bool
 is_some [] = false
 is_some (x ∷ xs) = true
 
+-- whether each choice has guards
+abbrev pub guard_flags : {m : _} → Row_of-Choice m → List Bool
+guard_flags end_of-Choice = []
+guard_flags (more_of-Choice s gs e cs) = is_some (guards_marks gs) ∷ guard_flags cs
+
 -- A right side has one choice without guards, or only choices with guards.
+abbrev pub is_shape : List Bool → Bool
+is_shape [] = false
+is_shape (false ∷ []) = true
+is_shape (false ∷ next ∷ flags) = false
+is_shape (true ∷ flags) = all_of flags
+
+-- an operator whose fixity is declared is not qualified
+abbrev pub declares_op : NameForm → List ℕ → Bool
+declares_op f.Con name = not (has_dot name)
+declares_op f.ConSym name = begins_with_colon name
+declares_op _ name = true
+
 abbrev mutual
   pub is_printable_exp : Exp → Bool
   is_printable_exp (Global name) = names_value (form_of name.occ) (length name.occ - 2)
@@ -127,7 +145,7 @@ abbrev mutual
 
   pub is_printable_decl : Decl → Bool
   is_printable_decl (TypeSig occ ty) = is_printable_type ty
-  is_printable_decl (FixityOf occ fixity) = nat_le fixity.level 9
+  is_printable_decl (FixityOf occ fixity) = nat_le fixity.level 9 && declares_op (form_of occ) occ
   is_printable_decl (Clause occ ps rhs) = all_of (map is_printable_pat ps) && is_printable_rhs rhs
   is_printable_decl (PatBind pat rhs) = is_printable_pat pat && is_printable_rhs rhs
   is_printable_decl _ = false
@@ -137,18 +155,12 @@ abbrev mutual
   are_printable_decls (more_of-Decl d ds) = is_printable_decl d && are_printable_decls ds
 
   pub is_printable_rhs : Rhs → Bool
-  is_printable_rhs (Rhs' s cs z ds) = are_printable_choices cs && are_printable_decls ds
+  is_printable_rhs (Rhs' s cs z ds) = is_shape (guard_flags cs) && (are_printable_choices cs && are_printable_decls ds)
 
   pub are_printable_choices : {m : _} → Row_of-Choice m → Bool
-  are_printable_choices end_of-Choice = false
-  are_printable_choices (more_of-Choice s end_of-Guard e end_of-Choice) = is_printable_exp e
-  are_printable_choices (more_of-Choice s end_of-Guard e cs) = false
-  are_printable_choices (more_of-Choice s gs e cs) = are_printable_guards gs && (is_printable_exp e && are_guarded cs)
-
-  pub are_guarded : {m : _} → Row_of-Choice m → Bool
-  are_guarded end_of-Choice = true
-  are_guarded (more_of-Choice s end_of-Guard e cs) = false
-  are_guarded (more_of-Choice s gs e cs) = are_printable_guards gs && (is_printable_exp e && are_guarded cs)
+  are_printable_choices end_of-Choice = true
+  are_printable_choices (more_of-Choice s gs e cs) =
+      are_printable_guards gs && (is_printable_exp e && are_printable_choices cs)
 
   pub is_printable_guard : Guard → Bool
   is_printable_guard (Test e) = is_printable_exp e
