@@ -2,7 +2,7 @@
 use Rattle.std.proofs.Common.{◌≡◌, ℕ, Bool, true, false, List, [], ◌∷◌, ◌++◌, length, map, refl, sym, ap, ◌∙◌}
 use Rattle.std.specs.Prelude.{not, ◌&&◌, nat_lt}
 use Rattle.std.specs.List.{flat_map}
-use Rattle.std.proofs.lemmas.Bool.{and_from}
+use Rattle.std.proofs.lemmas.Bool.{and_from, and_parts}
 use Rattle.std.proofs.lemmas.List.{append-nil}
 use Rattle.hs_forms.specs.Limits.{all_of}
 use Rattle.hs_tokens.specs.declared.terminal.Terminal.TheVariants as t
@@ -29,6 +29,39 @@ use Rattle.hs_modules.specs.Formed.{facts_of_operand, facts_of_infix, facts_of_s
 use Rattle.hs_modules.proofs.FoldingLemmas.{aexp_folded, exp_folded, operand_folded, if_folded, infix_folded, lambda_folded}
 use Rattle.hs_modules.proofs.FoldingLemmas.{signed_folded}
 use Rattle.flat_spelled.proofs.SeenLemmas.{Ts}
+use Rattle.hs_modules.specs.declared.expressions.AltBody.{AltBody, AltBody-F, roll-AltBody}
+use Rattle.hs_modules.specs.declared.expressions.AltSlot.{AltSlot, AltSlot-F, roll-AltSlot}
+use Rattle.hs_modules.specs.declared.expressions.AltBlock.{AltBlock, AltBlock-F, roll-AltBlock}
+use Rattle.hs_modules.specs.declared.expressions.AltTree.{AltTree, AltTree-F, roll-AltTree}
+use Rattle.hs_modules.specs.declared.expressions.CaseTree.{CaseTree, CaseTree-F, roll-CaseTree}
+use Rattle.hs_modules.specs.declared.expressions.DeclBlock.{DeclBlock, DeclBlock-F, roll-DeclBlock}
+use Rattle.hs_modules.specs.declared.expressions.DeclSlot.{DeclSlot, DeclSlot-F, roll-DeclSlot}
+use Rattle.hs_modules.specs.declared.expressions.DeclTree.{DeclTree, DeclTree-F, roll-DeclTree}
+use Rattle.hs_modules.specs.declared.expressions.GdTree.{GdTree, GdTree-F, roll-GdTree}
+use Rattle.hs_modules.specs.declared.expressions.GdaTree.{GdaTree, GdaTree-F, roll-GdaTree}
+use Rattle.hs_modules.specs.declared.expressions.GuardTree.{GuardTree, GuardTree-F, roll-GuardTree}
+use Rattle.hs_modules.specs.declared.expressions.LetTree.{LetTree, LetTree-F, roll-LetTree}
+use Rattle.hs_modules.specs.declared.expressions.Locals.{Locals, Locals-F, roll-Locals}
+use Rattle.hs_modules.specs.declared.expressions.RhsBody.{RhsBody, RhsBody-F, roll-RhsBody}
+use Rattle.hs_modules.specs.declared.expressions.RhsTree.{RhsTree, RhsTree-F, roll-RhsTree}
+use Rattle.hs_modules.specs.declared.expressions.FunLhsTree.{FunLhsTree, FunLhsTree-F, roll-FunLhsTree, fold-roll-FunLhsTree}
+use Rattle.hs_modules.specs.declared.declarations.Fixity.{Fixity}
+use Rattle.hs_modules.specs.declared.names.OpTree.{OpTree}
+use Rattle.hs_trees.specs.declared.patterns.PatTree.{PatTree}
+use Rattle.hs_trees.specs.declared.patterns.VarTree.{VarTree}
+use Rattle.hs_trees.specs.Patterns.{spelling_pat, is_pat, var_tokens}
+use Rattle.hs_modules.specs.Words.{op_tokens, is_operator}
+use Rattle.hs_modules.specs.Tokens.{spelling_alt, spelling_alt_block, spelling_alt_slot, spelling_alt_body, spelling_decl}
+use Rattle.hs_modules.specs.Tokens.{spelling_decl_block, spelling_decl_slot, spelling_gd, spelling_gda, spelling_guard}
+use Rattle.hs_modules.specs.Tokens.{spelling_locals, spelling_rhs, spelling_rhs_body, fixity_word, fun_lhs_tokens}
+use Rattle.hs_modules.specs.Formed.{facts_of_alt, facts_of_alt_block, facts_of_alt_slot, facts_of_alt_body, facts_of_decl}
+use Rattle.hs_modules.specs.Formed.{facts_of_decl_block, facts_of_decl_slot, facts_of_gd, facts_of_gda, facts_of_guard}
+use Rattle.hs_modules.specs.Formed.{facts_of_locals, facts_of_rhs, facts_of_rhs_body, is_level, is_fun_lhs, fun_lhs_formed}
+use Rattle.hs_modules.specs.Formed.{last_of}
+use Rattle.hs_modules.proofs.FoldingLemmas.{alt_body_folded, alt_slot_folded, decl_slot_folded, decl_folded, guard_folded}
+use Rattle.hs_modules.proofs.FoldingLemmas.{locals_folded, rhs_body_folded, alt_block_folded, alt_folded, case_folded}
+use Rattle.hs_modules.proofs.FoldingLemmas.{decl_block_folded, gd_folded, gda_folded, let_folded, rhs_folded}
+use Rattle.std.specs.Prelude.{Some}
 use Rattle.flat_spelled.proofs.LayerLemmas.{chain_of, operand_of, decl_block_of, decl_block_good, chain_tokens, chain_facts}
 use Rattle.flat_spelled.proofs.LayerLemmas.{operand_tokens_are, operand_good, atom_chain_ends}
 
