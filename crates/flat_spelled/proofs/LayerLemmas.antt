@@ -1,13 +1,12 @@
 -- The terminals and facts of surface trees, one layer at a time.
-use Rattle.std.proofs.Common.{◌≡◌, ℕ, Bool, true, false, List, [], ◌∷◌, ◌++◌, length, map, refl, sym, ap, ◌∙◌}
-use Rattle.std.specs.Prelude.{not, ◌&&◌, nat_lt}
+use Rattle.std.proofs.Common.{◌≡◌, true, false, List, [], ◌∷◌, ◌++◌, map, refl, ap, ◌∙◌}
+use Rattle.std.specs.Prelude.{not, ◌&&◌}
 use Rattle.std.specs.List.{flat_map}
 use Rattle.std.proofs.lemmas.Bool.{and_from, and_parts}
 use Rattle.std.proofs.lemmas.List.{append-nil}
-use Rattle.hs_forms.specs.Limits.{all_of}
 use Rattle.hs_tokens.specs.declared.terminal.Terminal.TheVariants as t
 use Rattle.hs_tokens.specs.declared.word.Word.TheVariants as w
-use Rattle.hs_trees.specs.Patterns.{literal_token, gcon_tokens, is_gcon, spelling_apat, is_apat}
+use Rattle.hs_trees.specs.Patterns.{literal_token, gcon_tokens, spelling_apat}
 use Rattle.hs_trees.specs.Types.{spelling_type, is_type}
 use Rattle.hs_trees.specs.declared.patterns.LiteralTree.{LiteralTree}
 use Rattle.hs_trees.specs.declared.patterns.GConTree.{GConTree}
@@ -17,51 +16,32 @@ use Rattle.hs_modules.specs.declared.names.QVarTree.{QVarTree}
 use Rattle.hs_modules.specs.declared.names.QOpTree.{QOpTree}
 use Rattle.hs_modules.specs.declared.expressions.AExpTree.{AExpTree, AExpTree-F, roll-AExpTree}
 use Rattle.hs_modules.specs.declared.expressions.ExpTree.{ExpTree, ExpTree-F, roll-ExpTree}
-use Rattle.hs_modules.specs.declared.expressions.IfTree.{IfTree, IfTree-F, roll-IfTree}
-use Rattle.hs_modules.specs.declared.expressions.InfixTree.{InfixTree, InfixTree-F, roll-InfixTree}
-use Rattle.hs_modules.specs.declared.expressions.LambdaTree.{LambdaTree, LambdaTree-F, roll-LambdaTree}
+use Rattle.hs_modules.specs.declared.expressions.IfTree.{roll-IfTree}
+use Rattle.hs_modules.specs.declared.expressions.InfixTree.{InfixTree, roll-InfixTree}
+use Rattle.hs_modules.specs.declared.expressions.LambdaTree.{roll-LambdaTree}
 use Rattle.hs_modules.specs.declared.expressions.OperandTree.{OperandTree, OperandTree-F, roll-OperandTree}
-use Rattle.hs_modules.specs.declared.expressions.SignedOperand.{SignedOperand, SignedOperand-F, roll-SignedOperand}
-use Rattle.hs_modules.specs.Words.{qvar_tokens, qop_tokens, is_bare_minus}
+use Rattle.hs_modules.specs.declared.expressions.SignedOperand.{SignedOperand, roll-SignedOperand}
+use Rattle.hs_modules.specs.Words.{qvar_tokens, qop_tokens}
 use Rattle.hs_modules.specs.Tokens.{token_algebra, spelling_aexp, spelling_exp, spelling_operand, spelling_infix}
-use Rattle.hs_modules.specs.Formed.{Facts, fact_algebra, closed, all_good, opened, facts_of_aexp, facts_of_exp}
+use Rattle.hs_modules.specs.Formed.{Facts, fact_algebra, closed, all_good, facts_of_aexp, facts_of_exp}
 use Rattle.hs_modules.specs.Formed.{facts_of_operand, facts_of_infix, facts_of_signed, good_of}
-use Rattle.hs_modules.proofs.FoldingLemmas.{aexp_folded, exp_folded, operand_folded, if_folded, infix_folded, lambda_folded}
+use Rattle.hs_modules.proofs.FoldingLemmas.{aexp_folded, exp_folded, operand_folded, if_folded, infix_folded}
+use Rattle.hs_modules.proofs.FoldingLemmas.{lambda_folded}
 use Rattle.hs_modules.proofs.FoldingLemmas.{signed_folded}
 use Rattle.flat_spelled.proofs.SeenLemmas.{Ts}
-use Rattle.hs_modules.specs.declared.expressions.AltBody.{AltBody, AltBody-F, roll-AltBody}
-use Rattle.hs_modules.specs.declared.expressions.AltSlot.{AltSlot, AltSlot-F, roll-AltSlot}
-use Rattle.hs_modules.specs.declared.expressions.AltBlock.{AltBlock, AltBlock-F, roll-AltBlock}
-use Rattle.hs_modules.specs.declared.expressions.AltTree.{AltTree, AltTree-F, roll-AltTree}
-use Rattle.hs_modules.specs.declared.expressions.CaseTree.{CaseTree, CaseTree-F, roll-CaseTree}
-use Rattle.hs_modules.specs.declared.expressions.DeclBlock.{DeclBlock, DeclBlock-F, roll-DeclBlock}
-use Rattle.hs_modules.specs.declared.expressions.DeclSlot.{DeclSlot, DeclSlot-F, roll-DeclSlot}
-use Rattle.hs_modules.specs.declared.expressions.DeclTree.{DeclTree, DeclTree-F, roll-DeclTree}
-use Rattle.hs_modules.specs.declared.expressions.GdTree.{GdTree, GdTree-F, roll-GdTree}
-use Rattle.hs_modules.specs.declared.expressions.GdaTree.{GdaTree, GdaTree-F, roll-GdaTree}
-use Rattle.hs_modules.specs.declared.expressions.GuardTree.{GuardTree, GuardTree-F, roll-GuardTree}
-use Rattle.hs_modules.specs.declared.expressions.LetTree.{LetTree, LetTree-F, roll-LetTree}
-use Rattle.hs_modules.specs.declared.expressions.Locals.{Locals, Locals-F, roll-Locals}
-use Rattle.hs_modules.specs.declared.expressions.RhsBody.{RhsBody, RhsBody-F, roll-RhsBody}
-use Rattle.hs_modules.specs.declared.expressions.RhsTree.{RhsTree, RhsTree-F, roll-RhsTree}
-use Rattle.hs_modules.specs.declared.expressions.FunLhsTree.{FunLhsTree, FunLhsTree-F, roll-FunLhsTree, fold-roll-FunLhsTree}
-use Rattle.hs_modules.specs.declared.declarations.Fixity.{Fixity}
-use Rattle.hs_modules.specs.declared.names.OpTree.{OpTree}
-use Rattle.hs_trees.specs.declared.patterns.PatTree.{PatTree}
-use Rattle.hs_trees.specs.declared.patterns.VarTree.{VarTree}
-use Rattle.hs_trees.specs.Patterns.{spelling_pat, is_pat, var_tokens}
-use Rattle.hs_modules.specs.Words.{op_tokens, is_operator}
-use Rattle.hs_modules.specs.Tokens.{spelling_alt, spelling_alt_block, spelling_alt_slot, spelling_alt_body, spelling_decl}
-use Rattle.hs_modules.specs.Tokens.{spelling_decl_block, spelling_decl_slot, spelling_gd, spelling_gda, spelling_guard}
-use Rattle.hs_modules.specs.Tokens.{spelling_locals, spelling_rhs, spelling_rhs_body, fixity_word, fun_lhs_tokens}
-use Rattle.hs_modules.specs.Formed.{facts_of_alt, facts_of_alt_block, facts_of_alt_slot, facts_of_alt_body, facts_of_decl}
-use Rattle.hs_modules.specs.Formed.{facts_of_decl_block, facts_of_decl_slot, facts_of_gd, facts_of_gda, facts_of_guard}
-use Rattle.hs_modules.specs.Formed.{facts_of_locals, facts_of_rhs, facts_of_rhs_body, is_level, is_fun_lhs, fun_lhs_formed}
-use Rattle.hs_modules.specs.Formed.{last_of}
-use Rattle.hs_modules.proofs.FoldingLemmas.{alt_body_folded, alt_slot_folded, decl_slot_folded, decl_folded, guard_folded}
-use Rattle.hs_modules.proofs.FoldingLemmas.{locals_folded, rhs_body_folded, alt_block_folded, alt_folded, case_folded}
-use Rattle.hs_modules.proofs.FoldingLemmas.{decl_block_folded, gd_folded, gda_folded, let_folded, rhs_folded}
-use Rattle.std.specs.Prelude.{Some}
+use Rattle.hs_modules.specs.declared.expressions.AltSlot.{AltSlot-F, roll-AltSlot}
+use Rattle.hs_modules.specs.declared.expressions.AltBlock.{AltBlock, roll-AltBlock}
+use Rattle.hs_modules.specs.declared.expressions.AltTree.{AltTree}
+use Rattle.hs_modules.specs.declared.expressions.DeclBlock.{DeclBlock, roll-DeclBlock}
+use Rattle.hs_modules.specs.declared.expressions.DeclSlot.{DeclSlot-F, roll-DeclSlot}
+use Rattle.hs_modules.specs.declared.expressions.DeclTree.{DeclTree}
+use Rattle.hs_modules.specs.Tokens.{spelling_alt, spelling_alt_block, spelling_alt_slot, spelling_decl}
+use Rattle.hs_modules.specs.Tokens.{spelling_decl_block, spelling_decl_slot}
+use Rattle.hs_modules.specs.Formed.{facts_of_alt, facts_of_alt_block, facts_of_alt_slot, facts_of_decl}
+use Rattle.hs_modules.specs.Formed.{facts_of_decl_block, facts_of_decl_slot}
+use Rattle.hs_modules.proofs.FoldingLemmas.{alt_slot_folded, decl_slot_folded}
+use Rattle.hs_modules.proofs.FoldingLemmas.{alt_block_folded}
+use Rattle.hs_modules.proofs.FoldingLemmas.{decl_block_folded}
 
 abbrev pub chain_of : OperandTree → InfixTree
 chain_of x = roll-InfixTree (record { first = roll-SignedOperand (record { negated = false; operand = x }); rest = [] })
@@ -77,7 +57,8 @@ operand_of a = roll-OperandTree (OperandTree-F.Apply a [])
 pub chain_tokens : (x : OperandTree) → spelling_infix (chain_of x) ≡ spelling_operand x
 unfolding token_algebra
 chain_tokens x =
-    infix_folded token_algebra (record { first = roll-SignedOperand (record { negated = false; operand = x }); rest = [] })
+    infix_folded token_algebra (record { first = roll-SignedOperand
+        (record { negated = false; operand = x }); rest = [] })
     ∙ append-nil _ ∙ signed_folded token_algebra (record { negated = false; operand = x })
 
 pub exp_tokens_are : (x : OperandTree) → spelling_exp (exp_of x) ≡ spelling_operand x
@@ -85,12 +66,15 @@ unfolding token_algebra
 exp_tokens_are x = exp_folded token_algebra (ExpTree-F.Infix (chain_of x)) ∙ chain_tokens x
 
 pub annotated_tokens : (x : OperandTree) (ty : TypeTree)
-    → spelling_exp (roll-ExpTree (ExpTree-F.Annotated (chain_of x) ty)) ≡ spelling_operand x ++ t.DoubleColon ∷ spelling_type ty
+    → spelling_exp (roll-ExpTree (ExpTree-F.Annotated (chain_of x) ty)) ≡ spelling_operand x
+        ++ t.DoubleColon ∷ spelling_type ty
 unfolding token_algebra
 annotated_tokens x ty =
-    exp_folded token_algebra (ExpTree-F.Annotated (chain_of x) ty) ∙ ap (λ (z : Ts). z ++ t.DoubleColon ∷ spelling_type ty) (chain_tokens x)
+    exp_folded token_algebra (ExpTree-F.Annotated (chain_of x) ty)
+        ∙ ap (λ (z : Ts). z ++ t.DoubleColon ∷ spelling_type ty) (chain_tokens x)
 
-pub apply_tokens : (a : AExpTree) (rest : List AExpTree) → spelling_operand (roll-OperandTree (OperandTree-F.Apply a rest))
+pub apply_tokens : (a : AExpTree) (rest : List AExpTree)
+    → spelling_operand (roll-OperandTree (OperandTree-F.Apply a rest))
     ≡ spelling_aexp a ++ flat_map (λ (part : Ts). part) (map spelling_aexp rest)
 unfolding token_algebra
 apply_tokens a rest = operand_folded token_algebra (OperandTree-F.Apply a rest)
@@ -110,12 +94,14 @@ pub literal_tokens : (it : LiteralTree) → spelling_aexp (roll-AExpTree (AExpTr
 unfolding token_algebra
 literal_tokens it = aexp_folded token_algebra (AExpTree-F.Literal it)
 
-pub parts_tokens : (x : ExpTree) (xs : List ExpTree) → spelling_aexp (roll-AExpTree (AExpTree-F.Parts x xs)) ≡ t.LeftParen
+pub parts_tokens : (x : ExpTree) (xs : List ExpTree) → spelling_aexp (roll-AExpTree (AExpTree-F.Parts x xs))
+    ≡ t.LeftParen
     ∷ ((spelling_exp x ++ flat_map (λ (part : Ts). t.Comma ∷ part) (map spelling_exp xs)) ++ t.RightParen ∷ [])
 unfolding token_algebra
 parts_tokens x xs = aexp_folded token_algebra (AExpTree-F.Parts x xs)
 
-pub list_tokens : (x : ExpTree) (xs : List ExpTree) → spelling_aexp (roll-AExpTree (AExpTree-F.List x xs)) ≡ t.LeftBracket
+pub list_tokens : (x : ExpTree) (xs : List ExpTree) → spelling_aexp (roll-AExpTree (AExpTree-F.List x xs))
+    ≡ t.LeftBracket
     ∷ ((spelling_exp x ++ flat_map (λ (part : Ts). t.Comma ∷ part) (map spelling_exp xs)) ++ t.RightBracket ∷ [])
 unfolding token_algebra
 list_tokens x xs = aexp_folded token_algebra (AExpTree-F.List x xs)
@@ -126,7 +112,8 @@ unfolding token_algebra
 section_tokens o c = aexp_folded token_algebra (AExpTree-F.RightSection o c)
 
 pub lambda_tokens : (a : APatTree) (rest : List APatTree) (x : ExpTree)
-    → spelling_operand (roll-OperandTree (OperandTree-F.Lambda (roll-LambdaTree (record { first = a; rest = rest; body = x }))))
+    → spelling_operand (roll-OperandTree
+        (OperandTree-F.Lambda (roll-LambdaTree (record { first = a; rest = rest; body = x }))))
     ≡ t.Backslash ∷ ((spelling_apat a ++ flat_map spelling_apat rest) ++ t.Arrow ∷ spelling_exp x)
 unfolding token_algebra
 lambda_tokens a rest x =
@@ -134,7 +121,8 @@ lambda_tokens a rest x =
     ∙ lambda_folded token_algebra (record { first = a; rest = rest; body = x })
 
 pub if_tokens : (a b c : ExpTree)
-    → spelling_operand (roll-OperandTree (OperandTree-F.If (roll-IfTree (record { test = a; then_part = b; else_part = c }))))
+    → spelling_operand (roll-OperandTree
+        (OperandTree-F.If (roll-IfTree (record { test = a; then_part = b; else_part = c }))))
     ≡ t.Word w.If ∷ (spelling_exp a ++ t.Word w.Then ∷ (spelling_exp b ++ t.Word w.Else ∷ spelling_exp c))
 unfolding token_algebra
 if_tokens a b c =
@@ -146,9 +134,11 @@ if_tokens a b c =
 pub chain_facts : (x : OperandTree) → (facts_of_operand x).good ≡ true → (facts_of_infix (chain_of x)).good ≡ true
 unfolding fact_algebra
 chain_facts x e =
-    ap good_of (infix_folded fact_algebra (record { first = roll-SignedOperand (record { negated = false; operand = x }); rest = [] }))
+    ap good_of (infix_folded fact_algebra
+        (record { first = roll-SignedOperand (record { negated = false; operand = x }); rest = [] }))
     ∙ and_from ((facts_of_signed one).good && true) true
-        (and_from (facts_of_signed one).good true (ap good_of (signed_folded fact_algebra (record { negated = false; operand = x })) ∙ e) refl) refl
+    (and_from (facts_of_signed one).good true
+        (ap good_of (signed_folded fact_algebra (record { negated = false; operand = x })) ∙ e) refl) refl
   where
     one : SignedOperand
     one = roll-SignedOperand (record { negated = false; operand = x })
@@ -157,20 +147,23 @@ chain_facts x e =
 pub chain_open : (x : OperandTree) → (facts_of_infix (chain_of x)).is_open ≡ (facts_of_operand x).is_open
 unfolding fact_algebra
 chain_open x =
-    ap (λ (g : Facts). g.is_open) (infix_folded fact_algebra (record { first = roll-SignedOperand (record { negated = false; operand = x }); rest = [] }))
+    ap (λ (g : Facts). g.is_open) (infix_folded fact_algebra
+        (record { first = roll-SignedOperand (record { negated = false; operand = x }); rest = [] }))
     ∙ ap (λ (g : Facts). g.is_open) (signed_folded fact_algebra (record { negated = false; operand = x }))
 
 pub chain_ends : (x : OperandTree) → (facts_of_infix (chain_of x)).ends_in_type ≡ (facts_of_operand x).ends_in_type
 unfolding fact_algebra
 chain_ends x =
-    ap (λ (g : Facts). g.ends_in_type) (infix_folded fact_algebra (record { first = roll-SignedOperand (record { negated = false; operand = x }); rest = [] }))
+    ap (λ (g : Facts). g.ends_in_type) (infix_folded fact_algebra
+        (record { first = roll-SignedOperand (record { negated = false; operand = x }); rest = [] }))
     ∙ ap (λ (g : Facts). g.ends_in_type) (signed_folded fact_algebra (record { negated = false; operand = x }))
 
 pub exp_facts_are : (x : OperandTree) → (facts_of_operand x).good ≡ true → (facts_of_exp (exp_of x)).good ≡ true
 unfolding fact_algebra
 exp_facts_are x e = ap good_of (exp_folded fact_algebra (ExpTree-F.Infix (chain_of x))) ∙ chain_facts x e
 
-pub apply_facts : (a : AExpTree) (rest : List AExpTree) → facts_of_operand (roll-OperandTree (OperandTree-F.Apply a rest))
+pub apply_facts : (a : AExpTree) (rest : List AExpTree)
+    → facts_of_operand (roll-OperandTree (OperandTree-F.Apply a rest))
     ≡ closed ((facts_of_aexp a).good && all_good (map facts_of_aexp rest))
 unfolding fact_algebra
 apply_facts a rest = operand_folded fact_algebra (OperandTree-F.Apply a rest)
@@ -191,7 +184,7 @@ annotated_facts a ty e g =
     let chain = facts_of_infix (chain_of (operand_of a)) in
     ap good_of (exp_folded fact_algebra (ExpTree-F.Annotated (chain_of (operand_of a)) ty))
     ∙ and_from (chain.good && not chain.is_open) (is_type ty)
-        (and_from chain.good (not chain.is_open) (chain_facts (operand_of a) (operand_good a e)) (atom_chain_closed a)) g
+    (and_from chain.good (not chain.is_open) (chain_facts (operand_of a) (operand_good a e)) (atom_chain_closed a)) g
 
 -- parts between semicolons
 abbrev pub between_semicolons : List Ts → Ts
@@ -200,9 +193,11 @@ between_semicolons (part ∷ parts) = part ++ flat_map (λ (it : Ts). t.Semicolo
 
 abbrev pub decl_block_of : List DeclTree → DeclBlock
 decl_block_of [] = roll-DeclBlock (record { first = roll-DeclSlot DeclSlot-F.NoDecl; rest = [] })
-decl_block_of (d ∷ ds) = roll-DeclBlock (record { first = roll-DeclSlot (DeclSlot-F.Decl d); rest = map (λ x. roll-DeclSlot (DeclSlot-F.Decl x)) ds })
+decl_block_of (d ∷ ds) = roll-DeclBlock
+    (record { first = roll-DeclSlot (DeclSlot-F.Decl d); rest = map (λ x. roll-DeclSlot (DeclSlot-F.Decl x)) ds })
 
-decl_slots : (ds : List DeclTree) → map spelling_decl_slot (map (λ x. roll-DeclSlot (DeclSlot-F.Decl x)) ds) ≡ map spelling_decl ds
+decl_slots : (ds : List DeclTree) → map spelling_decl_slot (map (λ x. roll-DeclSlot (DeclSlot-F.Decl x)) ds)
+    ≡ map spelling_decl ds
 unfolding token_algebra
 decl_slots [] = refl
 decl_slots (d ∷ ds) = λ i. decl_slot_folded token_algebra (DeclSlot-F.Decl d) i ∷ decl_slots ds i
@@ -214,9 +209,11 @@ decl_block_tokens [] =
     decl_block_folded token_algebra (record { first = roll-DeclSlot DeclSlot-F.NoDecl; rest = [] })
     ∙ ap (λ (z : Ts). t.LeftBrace ∷ ((z ++ []) ++ t.RightBrace ∷ [])) (decl_slot_folded token_algebra DeclSlot-F.NoDecl)
 decl_block_tokens (d ∷ ds) =
-    decl_block_folded token_algebra (record { first = roll-DeclSlot (DeclSlot-F.Decl d); rest = map (λ x. roll-DeclSlot (DeclSlot-F.Decl x)) ds })
-    ∙ (λ i. t.LeftBrace ∷ ((decl_slot_folded token_algebra (DeclSlot-F.Decl d) i ++ flat_map (λ part. t.Semicolon ∷ part) (decl_slots ds i))
-        ++ t.RightBrace ∷ []))
+    decl_block_folded token_algebra
+        (record { first = roll-DeclSlot (DeclSlot-F.Decl d); rest = map (λ x. roll-DeclSlot (DeclSlot-F.Decl x)) ds })
+    ∙ (λ i. t.LeftBrace ∷ ((decl_slot_folded token_algebra (DeclSlot-F.Decl d) i
+        ++ flat_map (λ part. t.Semicolon ∷ part) (decl_slots ds i))
+    ++ t.RightBrace ∷ []))
 
 decl_slots_good : (ds : List DeclTree) → all_good (map facts_of_decl ds) ≡ true
     → all_good (map facts_of_decl_slot (map (λ x. roll-DeclSlot (DeclSlot-F.Decl x)) ds)) ≡ true
@@ -225,27 +222,30 @@ decl_slots_good [] e = refl
 decl_slots_good (d ∷ ds) e =
     let both = and_parts (facts_of_decl d).good (all_good (map facts_of_decl ds)) e in
     and_from (facts_of_decl_slot (roll-DeclSlot (DeclSlot-F.Decl d))).good
-        (all_good (map facts_of_decl_slot (map (λ x. roll-DeclSlot (DeclSlot-F.Decl x)) ds)))
-        (ap good_of (decl_slot_folded fact_algebra (DeclSlot-F.Decl d)) ∙ both.0) (decl_slots_good ds both.1)
+    (all_good (map facts_of_decl_slot (map (λ x. roll-DeclSlot (DeclSlot-F.Decl x)) ds)))
+    (ap good_of (decl_slot_folded fact_algebra (DeclSlot-F.Decl d)) ∙ both.0) (decl_slots_good ds both.1)
 
 pub decl_block_good : (ds : List DeclTree) → all_good (map facts_of_decl ds) ≡ true
     → (facts_of_decl_block (decl_block_of ds)).good ≡ true
 unfolding fact_algebra
 decl_block_good [] e =
     ap good_of (decl_block_folded fact_algebra (record { first = roll-DeclSlot DeclSlot-F.NoDecl; rest = [] }))
-    ∙ and_from (facts_of_decl_slot (roll-DeclSlot DeclSlot-F.NoDecl)).good true (ap good_of (decl_slot_folded fact_algebra DeclSlot-F.NoDecl)) refl
+    ∙ and_from (facts_of_decl_slot (roll-DeclSlot DeclSlot-F.NoDecl)).good true
+        (ap good_of (decl_slot_folded fact_algebra DeclSlot-F.NoDecl)) refl
 decl_block_good (d ∷ ds) e =
     let both = and_parts (facts_of_decl d).good (all_good (map facts_of_decl ds)) e in
     let rest = map (λ x. roll-DeclSlot (DeclSlot-F.Decl x)) ds in
     ap good_of (decl_block_folded fact_algebra (record { first = roll-DeclSlot (DeclSlot-F.Decl d); rest = rest }))
     ∙ and_from (facts_of_decl_slot (roll-DeclSlot (DeclSlot-F.Decl d))).good (all_good (map facts_of_decl_slot rest))
-        (ap good_of (decl_slot_folded fact_algebra (DeclSlot-F.Decl d)) ∙ both.0) (decl_slots_good ds both.1)
+    (ap good_of (decl_slot_folded fact_algebra (DeclSlot-F.Decl d)) ∙ both.0) (decl_slots_good ds both.1)
 
 abbrev pub alt_block_of : List AltTree → AltBlock
 alt_block_of [] = roll-AltBlock (record { first = roll-AltSlot AltSlot-F.NoAlt; rest = [] })
-alt_block_of (d ∷ ds) = roll-AltBlock (record { first = roll-AltSlot (AltSlot-F.Alt d); rest = map (λ x. roll-AltSlot (AltSlot-F.Alt x)) ds })
+alt_block_of (d ∷ ds) = roll-AltBlock
+    (record { first = roll-AltSlot (AltSlot-F.Alt d); rest = map (λ x. roll-AltSlot (AltSlot-F.Alt x)) ds })
 
-alt_slots : (ds : List AltTree) → map spelling_alt_slot (map (λ x. roll-AltSlot (AltSlot-F.Alt x)) ds) ≡ map spelling_alt ds
+alt_slots : (ds : List AltTree) → map spelling_alt_slot (map (λ x. roll-AltSlot (AltSlot-F.Alt x)) ds)
+    ≡ map spelling_alt ds
 unfolding token_algebra
 alt_slots [] = refl
 alt_slots (d ∷ ds) = λ i. alt_slot_folded token_algebra (AltSlot-F.Alt d) i ∷ alt_slots ds i
@@ -257,9 +257,11 @@ alt_block_tokens [] =
     alt_block_folded token_algebra (record { first = roll-AltSlot AltSlot-F.NoAlt; rest = [] })
     ∙ ap (λ (z : Ts). t.LeftBrace ∷ ((z ++ []) ++ t.RightBrace ∷ [])) (alt_slot_folded token_algebra AltSlot-F.NoAlt)
 alt_block_tokens (d ∷ ds) =
-    alt_block_folded token_algebra (record { first = roll-AltSlot (AltSlot-F.Alt d); rest = map (λ x. roll-AltSlot (AltSlot-F.Alt x)) ds })
-    ∙ (λ i. t.LeftBrace ∷ ((alt_slot_folded token_algebra (AltSlot-F.Alt d) i ++ flat_map (λ part. t.Semicolon ∷ part) (alt_slots ds i))
-        ++ t.RightBrace ∷ []))
+    alt_block_folded token_algebra (record { first = roll-AltSlot (AltSlot-F.Alt d); rest = map
+        (λ x. roll-AltSlot (AltSlot-F.Alt x)) ds })
+    ∙ (λ i. t.LeftBrace ∷ ((alt_slot_folded token_algebra (AltSlot-F.Alt d) i
+        ++ flat_map (λ part. t.Semicolon ∷ part) (alt_slots ds i))
+    ++ t.RightBrace ∷ []))
 
 alt_slots_good : (ds : List AltTree) → all_good (map facts_of_alt ds) ≡ true
     → all_good (map facts_of_alt_slot (map (λ x. roll-AltSlot (AltSlot-F.Alt x)) ds)) ≡ true
@@ -268,18 +270,19 @@ alt_slots_good [] e = refl
 alt_slots_good (d ∷ ds) e =
     let both = and_parts (facts_of_alt d).good (all_good (map facts_of_alt ds)) e in
     and_from (facts_of_alt_slot (roll-AltSlot (AltSlot-F.Alt d))).good
-        (all_good (map facts_of_alt_slot (map (λ x. roll-AltSlot (AltSlot-F.Alt x)) ds)))
-        (ap good_of (alt_slot_folded fact_algebra (AltSlot-F.Alt d)) ∙ both.0) (alt_slots_good ds both.1)
+    (all_good (map facts_of_alt_slot (map (λ x. roll-AltSlot (AltSlot-F.Alt x)) ds)))
+    (ap good_of (alt_slot_folded fact_algebra (AltSlot-F.Alt d)) ∙ both.0) (alt_slots_good ds both.1)
 
 pub alt_block_good : (ds : List AltTree) → all_good (map facts_of_alt ds) ≡ true
     → (facts_of_alt_block (alt_block_of ds)).good ≡ true
 unfolding fact_algebra
 alt_block_good [] e =
     ap good_of (alt_block_folded fact_algebra (record { first = roll-AltSlot AltSlot-F.NoAlt; rest = [] }))
-    ∙ and_from (facts_of_alt_slot (roll-AltSlot AltSlot-F.NoAlt)).good true (ap good_of (alt_slot_folded fact_algebra AltSlot-F.NoAlt)) refl
+    ∙ and_from (facts_of_alt_slot (roll-AltSlot AltSlot-F.NoAlt)).good true
+        (ap good_of (alt_slot_folded fact_algebra AltSlot-F.NoAlt)) refl
 alt_block_good (d ∷ ds) e =
     let both = and_parts (facts_of_alt d).good (all_good (map facts_of_alt ds)) e in
     let rest = map (λ x. roll-AltSlot (AltSlot-F.Alt x)) ds in
     ap good_of (alt_block_folded fact_algebra (record { first = roll-AltSlot (AltSlot-F.Alt d); rest = rest }))
     ∙ and_from (facts_of_alt_slot (roll-AltSlot (AltSlot-F.Alt d))).good (all_good (map facts_of_alt_slot rest))
-        (ap good_of (alt_slot_folded fact_algebra (AltSlot-F.Alt d)) ∙ both.0) (alt_slots_good ds both.1)
+    (ap good_of (alt_slot_folded fact_algebra (AltSlot-F.Alt d)) ∙ both.0) (alt_slots_good ds both.1)

@@ -12,17 +12,17 @@ use Rattle.flat_text.specs.declared.name.NameForm.{NameForm}
 use Rattle.flat_text.specs.declared.name.NameForm.TheVariants as f
 use Rattle.flat_text.specs.Names.{form_of}
 use Rattle.flat_text.specs.PatternMarks.{pats_marks}
-use Rattle.std.specs.Prelude.{not, nat_lt, List, [], ◌∷◌, map, ◌==◌}
+use Rattle.std.specs.Prelude.{not, nat_lt, List, [], ◌∷◌, map}
 use Rattle.std.specs.Str.{bytes_eq}
 use Rattle.hs_forms.specs.Limits.{all_of}
 use Rattle.hs_tokens.specs.Terminals.{minus}
 use Rattle.hs_modules.specs.Words.{has_dot, begins_with_colon}
 use Rattle.hs_core.specs.declared.tree.Decl.{Decl}
-use Rattle.hs_core.specs.declared.tree.Decl.TheVariants.{DataDecl, SynonymDecl, TypeSig, FixityOf, Clause, PatBind}
+use Rattle.hs_core.specs.declared.tree.Decl.TheVariants.{TypeSig, FixityOf, Clause, PatBind}
 use Rattle.hs_core.specs.declared.tree.Exp.{Exp}
-use Rattle.hs_core.specs.declared.tree.Exp.TheVariants.{Local, Global, Int, Chr, Str, Apply, Apply', Lambda, Lambda'}
-use Rattle.hs_core.specs.declared.tree.Exp.TheVariants.{Let, Let', If, If', Case, Case', Tuple, Tuple', List as ListOf}
-use Rattle.hs_core.specs.declared.tree.Exp.TheVariants.{List' as ListOf', RightSection, RightSection', Annot, Annot'}
+use Rattle.hs_core.specs.declared.tree.Exp.TheVariants.{Local, Global, Apply', Lambda'}
+use Rattle.hs_core.specs.declared.tree.Exp.TheVariants.{Let', If', Case', Tuple'}
+use Rattle.hs_core.specs.declared.tree.Exp.TheVariants.{List' as ListOf', RightSection', Annot'}
 use Rattle.hs_core.specs.declared.tree.Rhs.{Rhs, Rhs'}
 use Rattle.hs_core.specs.declared.tree.Guard.{Guard}
 use Rattle.hs_core.specs.declared.tree.Guard.TheVariants.{Test, Bind}
@@ -176,4 +176,3 @@ abbrev mutual
   pub are_printable_alts : {m : _} → Row_of-Alt m → Bool
   are_printable_alts end_of-Alt = true
   are_printable_alts (more_of-Alt a as') = is_printable_alt a && are_printable_alts as'
-
