@@ -1,3 +1,4 @@
 pub mod CutLemmas
 pub mod OneLineLemmas
 pub mod ApartLemmas
+pub mod KeepLemmas

@@ -1,9 +1,16 @@
 -- The lines of flat texts: a text of several modules is cut behind each line that begins with `}`.
-use Rattle.std.specs.Prelude.{◌≡◌, ℕ, Bool, true, false, not, ◌&&◌, ◌||◌, ◌==◌, List, [], ◌∷◌, map}
+use Rattle.std.specs.Prelude.{◌≡◌, ◌≤◌, ◌++◌, ℕ, Some, Bool, true, false, not, ◌&&◌, ◌||◌, ◌==◌, List, [], ◌∷◌, map}
 use Rattle.std.specs.List.{flat_map}
+use Rattle.std.specs.Fmt.{decimal}
 use Rattle.hs_forms.specs.Limits.{all_of}
 use Rattle.hs_tokens.specs.declared.terminal.Terminal.{Terminal}
 use Rattle.hs_tokens.specs.declared.terminal.Terminal.TheVariants as t
+use Rattle.hs_lex.specs.declared.class.Class.TheVariants as c
+use Rattle.hs_lex.specs.declared.class.Start.TheVariants as s
+use Rattle.hs_lex.specs.declared.kind.Kind.{Kind}
+use Rattle.hs_lex.specs.Classes.{is_in, all, start_of}
+use Rattle.hs_lex.specs.Lexicon.{capital}
+use Rattle.flat_lex.specs.Literals.{char_bytes, string_bytes, AreCodes}
 use Rattle.flat_lex.specs.Pieces.{text_of}
 use Rattle.flat_text.specs.declared.flat.FlatModule.{FlatModule}
 use Rattle.flat_text.specs.Marks.{Marks, seen, pieces_of, shape_of}
@@ -59,3 +66,25 @@ keeps_lines m = all_of (map keeps_line (seen (module_marks m)))
 abbrev pub FlatTextsFallApart : Type 0
 FlatTextsFallApart = (ms : List FlatModule) → all_of (map keeps_lines ms) ≡ true
     → cut_text (flat_map flat_text ms) ≡ map flat_text ms
+
+-- Names and symbols, qualified and not, that the lexer's definitions know as such stand on one line, and so do the
+-- literals that a printer writes.
+pub record NamesKeepLines : Type 0 where
+  pub var : (b : ℕ) (bs : List ℕ) → start_of b ≡ s.Small → all (is_in c.Name) bs ≡ true
+      → keeps_line (t.Var (b ∷ bs)) ≡ true
+  pub var_sym : (b : ℕ) (bs : List ℕ) → start_of b ≡ s.Symbol → all (is_in c.Symbol) bs ≡ true
+      → keeps_line (t.VarSym (b ∷ bs)) ≡ true
+  pub con_sym : (b : ℕ) (bs : List ℕ) → start_of b ≡ s.Symbol → all (is_in c.Symbol) bs ≡ true
+      → keeps_line (t.ConSym (b ∷ bs)) ≡ true
+  pub con : (b : ℕ) (bs : List ℕ) (kind : Kind) → start_of b ≡ s.Large → capital false bs [] ≡ Some kind
+      → keeps_line (t.Con (b ∷ bs)) ≡ true
+  pub qualified_var : (b : ℕ) (bs : List ℕ) (kind : Kind) → start_of b ≡ s.Large → capital false bs [] ≡ Some kind
+      → keeps_line (t.QVar (b ∷ bs)) ≡ true
+  pub qualified_var_sym : (b : ℕ) (bs : List ℕ) (kind : Kind) → start_of b ≡ s.Large
+      → capital false bs [] ≡ Some kind → keeps_line (t.QVarSym (b ∷ bs)) ≡ true
+  pub qualified_con_sym : (b : ℕ) (bs : List ℕ) (kind : Kind) → start_of b ≡ s.Large
+      → capital false bs [] ≡ Some kind → keeps_line (t.ConSym (b ∷ bs)) ≡ true
+  pub integer : (value : ℕ) → value ≤ 9223372036854775807 → keeps_line (t.Integer (decimal value)) ≡ true
+  pub character : (code : ℕ) → code ≤ 1114111
+      → keeps_line (t.Char (39 ∷ (char_bytes 39 code ++ 39 ∷ []))) ≡ true
+  pub string : (text : List ℕ) → AreCodes text → keeps_line (t.Text (34 ∷ (string_bytes text ++ 34 ∷ []))) ≡ true

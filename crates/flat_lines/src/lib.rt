@@ -3,4 +3,4 @@
 
 mod laws;
 
-pub use laws::flat_texts_fall_apart;
+pub use laws::{flat_texts_fall_apart, names_keep_lines};
