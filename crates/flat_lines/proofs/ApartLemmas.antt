@@ -3,6 +3,7 @@ use Rattle.std.proofs.Common.{◌≡◌, ℕ, true, false, List, [], ◌∷◌, 
 use Rattle.std.specs.Prelude.{codes}
 use Rattle.std.specs.List.{flat_map}
 use Rattle.std.proofs.lemmas.Bool.{and_from, and_parts}
+use Rattle.std.proofs.lemmas.List.{append-nil}
 use Rattle.hs_forms.specs.Limits.{all_of}
 use Rattle.hs_tokens.specs.declared.terminal.Terminal.TheVariants as t
 use Rattle.hs_tokens.specs.declared.word.Word.TheVariants as w
@@ -21,12 +22,8 @@ use Rattle.flat_lines.proofs.OneLineLemmas.{decl_one, decl_first, export_list_on
 line_fits : (d : Decl) → Fits true (line_marks d) true
 line_fits d =
     fits_append true false true (decl_marks d) (Mark.word t.Semicolon ∷ line_end ∷ [])
-    (first_fits (decl_marks d) (decl_one d) (ap begins_well (sym (nothing_behind (decl_marks d))) ∙ decl_first d []))
+    (first_fits (decl_marks d) (decl_one d) (ap begins_well (sym (append-nil (decl_marks d))) ∙ decl_first d []))
     (record { fit = refl; ends = refl })
-  where
-    nothing_behind : (ms : Marks) → ms ++ [] ≡ ms
-    nothing_behind [] = refl
-    nothing_behind (m ∷ ms) = ap (λ r. m ∷ r) (nothing_behind ms)
 
 lines_fit : (decls : List Decl) → Fits true (flat_map line_marks decls) true
 lines_fit [] = record { fit = refl; ends = refl }

@@ -174,18 +174,15 @@ begins_well [] = false
 begins_well (Mark.blank b ∷ ms) = false
 begins_well (Mark.word x ∷ ms) = not (is_brace x)
 
-line_fits : (ms : Marks) → is_one_line ms ≡ true → Fits false ms false
-line_fits [] e = record { fit = refl; ends = refl }
-line_fits (Mark.blank Blank.gap ∷ ms) e = let it = line_fits ms e in record { fit = it.fit; ends = it.ends }
-line_fits (Mark.blank Blank.line ∷ ms) e = cc
-line_fits (Mark.word x ∷ ms) e = let it = line_fits ms e in record { fit = it.fit; ends = it.ends }
-
 pub inner_fits : (ms : Marks) → is_one_line ms ≡ true → Fits false ms false
-inner_fits ms e = line_fits ms e
+inner_fits [] e = record { fit = refl; ends = refl }
+inner_fits (Mark.blank Blank.gap ∷ ms) e = let it = inner_fits ms e in record { fit = it.fit; ends = it.ends }
+inner_fits (Mark.blank Blank.line ∷ ms) e = cc
+inner_fits (Mark.word x ∷ ms) e = let it = inner_fits ms e in record { fit = it.fit; ends = it.ends }
 
 pub first_fits : (ms : Marks) → is_one_line ms ≡ true → begins_well ms ≡ true → Fits true ms false
 first_fits [] e h = cc
 first_fits (Mark.blank b ∷ ms) e h = cc
 first_fits (Mark.word x ∷ ms) e h =
-    let it = line_fits ms e in
+    let it = inner_fits ms e in
     record { fit = and_from (not (is_brace x)) (fits false ms) h it.fit; ends = it.ends }

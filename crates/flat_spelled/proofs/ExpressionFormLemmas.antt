@@ -4,6 +4,7 @@ use Rattle.std.proofs.Common.{append_assoc}
 use Rattle.std.specs.Prelude.{not, nat_le}
 use Rattle.std.specs.List.{flat_map}
 use Rattle.std.proofs.lemmas.Bool.{and_from, and_parts}
+use Rattle.std.proofs.lemmas.List.{append-nil}
 use Rattle.bp_base.specs.declared.ty.OrigName.{OrigName}
 use Rattle.hs_forms.specs.Limits.{all_of}
 use Rattle.hs_tokens.specs.declared.terminal.Terminal.TheVariants as t
@@ -132,15 +133,11 @@ compound ms it = record {
   atom = record {
     tree = roll-AExpTree (AExpTree-F.Parts it.tree []);
     spelled = seen_brackets ms ∙ ap (λ (z : Ts). t.LeftParen ∷ (z ++ t.RightParen ∷ []))
-        (it.spelled ∙ sym (nil_behind (spelling_exp it.tree))) ∙ sym (parts_tokens it.tree []);
+        (it.spelled ∙ sym (append-nil (spelling_exp it.tree))) ∙ sym (parts_tokens it.tree []);
     good = parts_good it.tree [] refl it.good refl;
   };
   whole = it;
 }
-  where
-    nil_behind : (ts : Ts) → ts ++ [] ≡ ts
-    nil_behind [] = refl
-    nil_behind (x ∷ ts) = ap (λ r. x ∷ r) (nil_behind ts)
 
 pub operand_exp : (ms : Marks) (x : OperandTree) → seen ms ≡ spelling_operand x → (facts_of_operand x).good ≡ true
     → ExpOf ms
