@@ -1,7 +1,7 @@
 -- Texts of which no line begins with `}`, by their bytes and by their marks.
 use Rattle.std.proofs.Common.{◌≡◌, ℕ, Bool, true, false, List, [], ◌∷◌, ◌++◌, map, refl, ap, ◌∙◌}
 use Rattle.std.specs.Prelude.{not, ◌&&◌, ◌||◌, ◌==◌}
-use Rattle.std.proofs.lemmas.Bool.{and_from, and_parts}
+use Rattle.std.proofs.lemmas.Bool.{and_from, and_parts, not-true}
 use Rattle.hs_forms.specs.Limits.{all_of}
 use Rattle.flat_text.specs.Marks.{Blank, Mark, Marks, seen, shape_of}
 use Rattle.flat_lines.specs.Lines.{put_before, put_by, cut_at, is_brace, has_no_line_end, starts_well, keeps_line}
@@ -28,10 +28,6 @@ put_all (b ∷ bs) parts = put_before b (put_all bs parts)
 put_first : (xs part : List ℕ) (parts : List (List ℕ)) → put_all xs (part ∷ parts) ≡ (xs ++ part) ∷ parts
 put_first [] part parts = refl
 put_first (b ∷ xs) part parts = ap (put_before b) (put_first xs part parts)
-
-not_true : (v : Bool) → not v ≡ true → v ≡ false
-not_true true e = cc
-not_true false e = refl
 
 cut_byte : (v : Bool) (b : ℕ) (bs : List ℕ) → not v ≡ true
     → put_by ((false || v) && b == 10) b (cut_at (b == 10) ((false || v) && not (b == 10)) bs)
@@ -73,7 +69,7 @@ within : (xs : List ℕ) → has_no_line_end xs ≡ true → Quiet false xs fals
 within [] e = record { is_quiet = refl; ends = refl }
 within (b ∷ xs) e =
     let both = and_parts (not (b == 10)) (has_no_line_end xs) e in
-    let no = not_true (b == 10) both.0 in
+    let no = not-true (b == 10) both.0 in
     let rest = within xs both.1 in
     record {
       is_quiet = ap (λ v. quiet v xs) no ∙ rest.is_quiet;
@@ -92,7 +88,7 @@ word_quiet begins brace [] e h = cc
 word_quiet begins brace (b ∷ xs) e h =
     let both = and_parts (has_no_line_end (b ∷ xs)) (starts_well brace (b ∷ xs)) h in
     let ends = and_parts (not (b == 10)) (has_no_line_end xs) both.0 in
-    let no = not_true (b == 10) ends.0 in
+    let no = not-true (b == 10) ends.0 in
     let rest = within xs ends.1 in
     record {
       is_quiet = and_from (not (begins && b == 125)) (quiet (b == 10) xs) (no_closing begins brace (b == 125) e both.1)
