@@ -1,3 +1,9 @@
 pub mod SeenLemmas
 pub mod PatternLemmas
 pub mod TypeLemmas
+pub mod LayerLemmas
+pub mod SideLayerLemmas
+pub mod FormLayerLemmas
+pub mod ExpressionFormLemmas
+pub mod SideFormLemmas
+pub mod ExpressionLemmas

@@ -64,7 +64,7 @@ pub record ConOf (ms : Marks) : Type 0 where
   pub spelled : seen ms ≡ gcon_tokens tree
   pub good : is_gcon tree ≡ true
 
-tuple_of : (count : ℕ) → nat_lt count 15 ≡ true → ConOf (bracketed (replicate count (Mark.word t.Comma)))
+pub tuple_of : (count : ℕ) → nat_lt count 15 ≡ true → ConOf (bracketed (replicate count (Mark.word t.Comma)))
 tuple_of zero e = record { tree = g.Unit; spelled = refl; good = refl }
 tuple_of (suc count) e = record {
   tree = g.Tuple (suc count);
@@ -104,7 +104,7 @@ pub record APatsOf (parts : List Marks) : Type 0 where
   pub good : all_of (map is_apat trees) ≡ true
   pub as_many : length trees ≡ length parts
 
-no_pats : APatsOf []
+pub no_pats : APatsOf []
 no_pats = record { trees = []; spelled = refl; good = refl; as_many = refl }
 
 pub more_pats : (ms : Marks) (parts : List Marks) → APatOf ms → APatsOf parts → APatsOf (ms ∷ parts)
@@ -179,10 +179,10 @@ first_same x y xs ys e = cc
 pub rest_same : (x y : Ts) (xs ys : List Ts) → x ∷ xs ≡ y ∷ ys → xs ≡ ys
 rest_same x y xs ys e = cc
 
-one_less : (n k' : ℕ) → suc n ≡ suc k' → n ≡ k'
+pub one_less : (n k' : ℕ) → suc n ≡ suc k' → n ≡ k'
 one_less n k' e = omega arith
 
-few : (n m k' : ℕ) → n ≡ m → m ≡ k' → nat_le (suc k') 15 ≡ true → nat_lt n 15 ≡ true
+pub few : (n m k' : ℕ) → n ≡ m → m ≡ k' → nat_le (suc k') 15 ≡ true → nat_lt n 15 ≡ true
 few n m k' e h g = grind (arith, nat_tests)
 
 tuple_pat : (parts : List Marks) → nat_le (length parts) 15 ≡ true → APatsOf parts → APatOf (bracketed (parted parts))

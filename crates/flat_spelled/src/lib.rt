@@ -3,4 +3,6 @@
 
 mod laws;
 
-pub use laws::{patterns_are_spelled, types_are_spelled};
+pub use laws::{
+    declarations_are_spelled, expressions_are_spelled, patterns_are_spelled, types_are_spelled,
+};

@@ -1,0 +1,4 @@
+pub mod CutLemmas
+pub mod OneLineLemmas
+pub mod ApartLemmas
+pub mod KeepLemmas

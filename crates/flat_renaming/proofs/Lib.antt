@@ -1,0 +1,4 @@
+pub mod RenamedNameLemmas
+pub mod RenamedTextLemmas
+pub mod RenamedLocalLemmas
+pub mod KeptLemmas

@@ -1,0 +1,6 @@
+//! What renaming keeps of a module's declarations.
+#![tactic(auto)]
+
+mod laws;
+
+pub use laws::renaming_keeps_texts;

@@ -1,0 +1,2 @@
+pub mod PrintableModule
+pub mod Whole
