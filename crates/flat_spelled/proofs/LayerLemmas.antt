@@ -57,8 +57,11 @@ operand_of a = roll-OperandTree (OperandTree-F.Apply a [])
 pub chain_tokens : (x : OperandTree) → spelling_infix (chain_of x) ≡ spelling_operand x
 unfolding token_algebra
 chain_tokens x =
-    infix_folded token_algebra (record { first = roll-SignedOperand
-        (record { negated = false; operand = x }); rest = [] })
+    infix_folded token_algebra (record {
+      first = roll-SignedOperand
+          (record { negated = false; operand = x });
+      rest = [];
+    })
     ∙ append-nil _ ∙ signed_folded token_algebra (record { negated = false; operand = x })
 
 pub exp_tokens_are : (x : OperandTree) → spelling_exp (exp_of x) ≡ spelling_operand x
@@ -67,11 +70,11 @@ exp_tokens_are x = exp_folded token_algebra (ExpTree-F.Infix (chain_of x)) ∙ c
 
 pub annotated_tokens : (x : OperandTree) (ty : TypeTree)
     → spelling_exp (roll-ExpTree (ExpTree-F.Annotated (chain_of x) ty)) ≡ spelling_operand x
-        ++ t.DoubleColon ∷ spelling_type ty
+    ++ t.DoubleColon ∷ spelling_type ty
 unfolding token_algebra
 annotated_tokens x ty =
     exp_folded token_algebra (ExpTree-F.Annotated (chain_of x) ty)
-        ∙ ap (λ (z : Ts). z ++ t.DoubleColon ∷ spelling_type ty) (chain_tokens x)
+    ∙ ap (λ (z : Ts). z ++ t.DoubleColon ∷ spelling_type ty) (chain_tokens x)
 
 pub apply_tokens : (a : AExpTree) (rest : List AExpTree)
     → spelling_operand (roll-OperandTree (OperandTree-F.Apply a rest))
@@ -113,7 +116,7 @@ section_tokens o c = aexp_folded token_algebra (AExpTree-F.RightSection o c)
 
 pub lambda_tokens : (a : APatTree) (rest : List APatTree) (x : ExpTree)
     → spelling_operand (roll-OperandTree
-        (OperandTree-F.Lambda (roll-LambdaTree (record { first = a; rest = rest; body = x }))))
+    (OperandTree-F.Lambda (roll-LambdaTree (record { first = a; rest = rest; body = x }))))
     ≡ t.Backslash ∷ ((spelling_apat a ++ flat_map spelling_apat rest) ++ t.Arrow ∷ spelling_exp x)
 unfolding token_algebra
 lambda_tokens a rest x =
@@ -122,7 +125,7 @@ lambda_tokens a rest x =
 
 pub if_tokens : (a b c : ExpTree)
     → spelling_operand (roll-OperandTree
-        (OperandTree-F.If (roll-IfTree (record { test = a; then_part = b; else_part = c }))))
+    (OperandTree-F.If (roll-IfTree (record { test = a; then_part = b; else_part = c }))))
     ≡ t.Word w.If ∷ (spelling_exp a ++ t.Word w.Then ∷ (spelling_exp b ++ t.Word w.Else ∷ spelling_exp c))
 unfolding token_algebra
 if_tokens a b c =
@@ -135,10 +138,10 @@ pub chain_facts : (x : OperandTree) → (facts_of_operand x).good ≡ true → (
 unfolding fact_algebra
 chain_facts x e =
     ap good_of (infix_folded fact_algebra
-        (record { first = roll-SignedOperand (record { negated = false; operand = x }); rest = [] }))
+    (record { first = roll-SignedOperand (record { negated = false; operand = x }); rest = [] }))
     ∙ and_from ((facts_of_signed one).good && true) true
     (and_from (facts_of_signed one).good true
-        (ap good_of (signed_folded fact_algebra (record { negated = false; operand = x })) ∙ e) refl) refl
+    (ap good_of (signed_folded fact_algebra (record { negated = false; operand = x })) ∙ e) refl) refl
   where
     one : SignedOperand
     one = roll-SignedOperand (record { negated = false; operand = x })
@@ -148,14 +151,14 @@ pub chain_open : (x : OperandTree) → (facts_of_infix (chain_of x)).is_open ≡
 unfolding fact_algebra
 chain_open x =
     ap (λ (g : Facts). g.is_open) (infix_folded fact_algebra
-        (record { first = roll-SignedOperand (record { negated = false; operand = x }); rest = [] }))
+    (record { first = roll-SignedOperand (record { negated = false; operand = x }); rest = [] }))
     ∙ ap (λ (g : Facts). g.is_open) (signed_folded fact_algebra (record { negated = false; operand = x }))
 
 pub chain_ends : (x : OperandTree) → (facts_of_infix (chain_of x)).ends_in_type ≡ (facts_of_operand x).ends_in_type
 unfolding fact_algebra
 chain_ends x =
     ap (λ (g : Facts). g.ends_in_type) (infix_folded fact_algebra
-        (record { first = roll-SignedOperand (record { negated = false; operand = x }); rest = [] }))
+    (record { first = roll-SignedOperand (record { negated = false; operand = x }); rest = [] }))
     ∙ ap (λ (g : Facts). g.ends_in_type) (signed_folded fact_algebra (record { negated = false; operand = x }))
 
 pub exp_facts_are : (x : OperandTree) → (facts_of_operand x).good ≡ true → (facts_of_exp (exp_of x)).good ≡ true
@@ -210,9 +213,9 @@ decl_block_tokens [] =
     ∙ ap (λ (z : Ts). t.LeftBrace ∷ ((z ++ []) ++ t.RightBrace ∷ [])) (decl_slot_folded token_algebra DeclSlot-F.NoDecl)
 decl_block_tokens (d ∷ ds) =
     decl_block_folded token_algebra
-        (record { first = roll-DeclSlot (DeclSlot-F.Decl d); rest = map (λ x. roll-DeclSlot (DeclSlot-F.Decl x)) ds })
+    (record { first = roll-DeclSlot (DeclSlot-F.Decl d); rest = map (λ x. roll-DeclSlot (DeclSlot-F.Decl x)) ds })
     ∙ (λ i. t.LeftBrace ∷ ((decl_slot_folded token_algebra (DeclSlot-F.Decl d) i
-        ++ flat_map (λ part. t.Semicolon ∷ part) (decl_slots ds i))
+    ++ flat_map (λ part. t.Semicolon ∷ part) (decl_slots ds i))
     ++ t.RightBrace ∷ []))
 
 decl_slots_good : (ds : List DeclTree) → all_good (map facts_of_decl ds) ≡ true
@@ -231,7 +234,7 @@ unfolding fact_algebra
 decl_block_good [] e =
     ap good_of (decl_block_folded fact_algebra (record { first = roll-DeclSlot DeclSlot-F.NoDecl; rest = [] }))
     ∙ and_from (facts_of_decl_slot (roll-DeclSlot DeclSlot-F.NoDecl)).good true
-        (ap good_of (decl_slot_folded fact_algebra DeclSlot-F.NoDecl)) refl
+    (ap good_of (decl_slot_folded fact_algebra DeclSlot-F.NoDecl)) refl
 decl_block_good (d ∷ ds) e =
     let both = and_parts (facts_of_decl d).good (all_good (map facts_of_decl ds)) e in
     let rest = map (λ x. roll-DeclSlot (DeclSlot-F.Decl x)) ds in
@@ -257,10 +260,13 @@ alt_block_tokens [] =
     alt_block_folded token_algebra (record { first = roll-AltSlot AltSlot-F.NoAlt; rest = [] })
     ∙ ap (λ (z : Ts). t.LeftBrace ∷ ((z ++ []) ++ t.RightBrace ∷ [])) (alt_slot_folded token_algebra AltSlot-F.NoAlt)
 alt_block_tokens (d ∷ ds) =
-    alt_block_folded token_algebra (record { first = roll-AltSlot (AltSlot-F.Alt d); rest = map
-        (λ x. roll-AltSlot (AltSlot-F.Alt x)) ds })
+    alt_block_folded token_algebra (record {
+      first = roll-AltSlot (AltSlot-F.Alt d);
+      rest = map
+          (λ x. roll-AltSlot (AltSlot-F.Alt x)) ds;
+    })
     ∙ (λ i. t.LeftBrace ∷ ((alt_slot_folded token_algebra (AltSlot-F.Alt d) i
-        ++ flat_map (λ part. t.Semicolon ∷ part) (alt_slots ds i))
+    ++ flat_map (λ part. t.Semicolon ∷ part) (alt_slots ds i))
     ++ t.RightBrace ∷ []))
 
 alt_slots_good : (ds : List AltTree) → all_good (map facts_of_alt ds) ≡ true
@@ -279,7 +285,7 @@ unfolding fact_algebra
 alt_block_good [] e =
     ap good_of (alt_block_folded fact_algebra (record { first = roll-AltSlot AltSlot-F.NoAlt; rest = [] }))
     ∙ and_from (facts_of_alt_slot (roll-AltSlot AltSlot-F.NoAlt)).good true
-        (ap good_of (alt_slot_folded fact_algebra AltSlot-F.NoAlt)) refl
+    (ap good_of (alt_slot_folded fact_algebra AltSlot-F.NoAlt)) refl
 alt_block_good (d ∷ ds) e =
     let both = and_parts (facts_of_alt d).good (all_good (map facts_of_alt ds)) e in
     let rest = map (λ x. roll-AltSlot (AltSlot-F.Alt x)) ds in

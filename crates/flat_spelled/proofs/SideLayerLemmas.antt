@@ -171,7 +171,7 @@ pub guarded_equals_good : (g : GdTree) (gs : List GdTree) → (facts_of_gd g).go
 unfolding fact_algebra
 guarded_equals_good g gs e h =
     ap good_of (rhs_body_folded fact_algebra (RhsBody-F.GuardedEquals g gs))
-        ∙ and_from (facts_of_gd g).good (all_good (map facts_of_gd gs)) e h
+    ∙ and_from (facts_of_gd g).good (all_good (map facts_of_gd gs)) e h
 
 pub arrow_tokens : (x : ExpTree) → spelling_alt_body (roll-AltBody (AltBody-F.Arrow x)) ≡ t.Arrow ∷ spelling_exp x
 unfolding token_algebra
@@ -194,7 +194,7 @@ pub guarded_arrows_good : (g : GdaTree) (gs : List GdaTree) → (facts_of_gda g)
 unfolding fact_algebra
 guarded_arrows_good g gs e h =
     ap good_of (alt_body_folded fact_algebra (AltBody-F.GuardedArrows g gs))
-        ∙ and_from (facts_of_gda g).good (all_good (map facts_of_gda gs)) e h
+    ∙ and_from (facts_of_gda g).good (all_good (map facts_of_gda gs)) e h
 
 abbrev pub locals_of : List DeclTree → Locals
 locals_of [] = roll-Locals Locals-F.Absent
@@ -218,7 +218,7 @@ locals_good (d ∷ ds) e =
 
 pub rhs_tokens_are : (body : RhsBody) (local : Locals)
     → spelling_rhs (roll-RhsTree (record { body = body; locals = local })) ≡ spelling_rhs_body body
-        ++ spelling_locals local
+    ++ spelling_locals local
 unfolding token_algebra
 rhs_tokens_are body local = rhs_folded token_algebra (record { body = body; locals = local })
 
@@ -239,7 +239,7 @@ alt_tokens_are pat body local = alt_folded token_algebra (record { pat = pat; bo
 pub alt_good : (pat : PatTree) (body : AltBody) (local : Locals) → is_pat pat ≡ true → (facts_of_alt_body body).good
     ≡ true
     → (facts_of_locals local).good ≡ true
-        → (facts_of_alt (roll-AltTree (record { pat = pat; body = body; locals = local }))).good ≡ true
+    → (facts_of_alt (roll-AltTree (record { pat = pat; body = body; locals = local }))).good ≡ true
 unfolding fact_algebra
 alt_good pat body local g e h =
     ap good_of (alt_folded fact_algebra (record { pat = pat; body = body; locals = local }))
@@ -262,7 +262,7 @@ signature_good var ty e = ap good_of (decl_folded fact_algebra (DeclTree-F.Signa
 
 pub fixity_tokens : (word' : Fixity) (digit : List ℕ) (op : OpTree)
     → spelling_decl (roll-DeclTree (DeclTree-F.Fixity word' (Some digit) op []))
-        ≡ fixity_word word' ∷ t.Integer digit ∷ op_tokens op
+    ≡ fixity_word word' ∷ t.Integer digit ∷ op_tokens op
 unfolding token_algebra
 fixity_tokens word' digit op =
     decl_folded token_algebra (DeclTree-F.Fixity word' (Some digit) op [])
@@ -285,7 +285,7 @@ pub pattern_good : (pat : PatTree) (rhs : RhsTree) → is_pat pat ≡ true → (
 unfolding fact_algebra
 pattern_good pat rhs e h =
     ap good_of (decl_folded fact_algebra (DeclTree-F.Pattern pat rhs))
-        ∙ and_from (is_pat pat) (facts_of_rhs rhs).good e h
+    ∙ and_from (is_pat pat) (facts_of_rhs rhs).good e h
 
 abbrev pub prefix_of : VarTree → APatTree → List APatTree → FunLhsTree
 prefix_of var a rest = roll-FunLhsTree (FunLhsTree-F.Prefix var a rest)
@@ -301,7 +301,7 @@ function_tokens var a rest rhs =
 pub function_good : (var : VarTree) (a : APatTree) (rest : List APatTree) (rhs : RhsTree) → is_apat a
     && all_of (map is_apat rest) ≡ true
     → (facts_of_rhs rhs).good ≡ true
-        → (facts_of_decl (roll-DeclTree (DeclTree-F.Function (prefix_of var a rest) rhs))).good ≡ true
+    → (facts_of_decl (roll-DeclTree (DeclTree-F.Function (prefix_of var a rest) rhs))).good ≡ true
 unfolding fact_algebra
 function_good var a rest rhs e h =
     ap good_of (decl_folded fact_algebra (DeclTree-F.Function (prefix_of var a rest) rhs))
