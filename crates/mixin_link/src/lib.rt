@@ -15,7 +15,10 @@ mod written;
 
 pub use error::LinkError;
 pub use lawful::are_lawful;
-pub use laws::{answers_are_principal, causes_leave_none, linkings_are_unifiers, principal_is_one};
+pub use laws::{
+    answers_are_principal, causes_leave_none, linking_has_one_outcome, linkings_are_lawful,
+    linkings_are_unifiers, names_are_ordered, principal_is_one,
+};
 pub use link::link_names;
 pub use open::{OpenInclude, OpenIncludes};
 pub use summary::{Summaries, Summary};
