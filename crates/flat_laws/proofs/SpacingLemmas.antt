@@ -423,7 +423,8 @@ applied_apart a.Tuple name args last n h g place =
 applied_apart a.Other name args last n h g place =
     if_brackets (at_atom place) (application_marks name args last) (application_apart name args last n h g)
 
-applied_plain : (form : Applied) (name : Marks) (args : List Placed) (last : Placed)
+applied_plain : (form : Applied)
+    (name : Marks) (args : List Placed) (last : Placed)
     → plain_first (applied_marks form name args last p.Atom) ≡ true
 applied_plain a.List name args last = refl
 applied_plain a.Arrow name args last = refl
@@ -585,7 +586,8 @@ cons_tail (con ∷ cons) = record {
   neutral = refl;
 }
 
-data_apart : (occ : List ℕ) (is_new : Bool) (params : List (List ℕ)) (cons : List ConDecl)
+data_apart : (occ : List ℕ)
+    (is_new : Bool) (params : List (List ℕ)) (cons : List ConDecl)
     → Apart (data_marks occ is_new params cons)
 data_apart occ is_new params cons =
     let tail = tails (spaced (map bare_marks params)) (led (signed t.Equals) (signed t.Bar) (map con_decl_marks cons))

@@ -6,7 +6,7 @@ use Rattle.std.specs.Prelude.{not, ◌&&◌, ◌||◌, ◌==◌, nat_le, nat_lt}
 use Rattle.std.specs.List.{prefix_len, fold}
 use Rattle.std.specs.Str.{is_utf8, IsAscii}
 use Rattle.std.specs.Fmt.{decimal}
-use Rattle.std.proofs.lemmas.Bool.{cases_Bool, and_parts, or_cases, eqb-true, ltb-true, lt-ltb, or_parts}
+use Rattle.std.proofs.lemmas.Bool.{cases_Bool, and_parts, or_cases, eqb-true, ltb-true, lt-ltb, le-leb, or_parts}
 use Rattle.std.proofs.lemmas.Bool.Decides.{nat_tests}
 use Rattle.std.proofs.lemmas.List.{take_at, drop_at, length-append}
 use Rattle.std.proofs.lemmas.List.Sums.{fold-append}
@@ -23,7 +23,7 @@ use Rattle.hs_lex.specs.Literals.{more_by, is_char_escape, code_len, name_len, c
 use Rattle.hs_lex.specs.Literals.{string_escape_len, is_plain, item_len, string_len, character_len, literal_len}
 use Rattle.hs_lex.specs.Literals.{closed_behind, char_len}
 use Rattle.hs_lex.proofs.RunLemmas.{prefix_yes, prefix_no}
-use Rattle.hs_lex.proofs.LevelLemmas.{more_none}
+use Rattle.hs_lex.proofs.LevelLemmas.{more_none, more_twice}
 use Rattle.flat_lex.specs.Pieces.{Piece, IsPiece}
 use Rattle.flat_lex.specs.Literals.{AreCodes, LiteralsArePieces, char_by, char_bytes, gap_by, gap, string_bytes}
 use Rattle.flat_lex.specs.Literals.{integer_piece, character_piece}
@@ -44,11 +44,9 @@ small_digit : (n : ℕ) → n < 10 → is_in c.Digit (48 + n) ≡ true
 small_digit n h = grind (arith, nat_tests)
 
 digit_is : (n : ℕ) → n < 10 → digit_of (48 + n) ≡ n
-digit_is n h = ap (λ v. if v then 48 + n - 48 else (if nat_le (48 + n) 70 then 48 + n - 55 else 48 + n - 87)) (le n h)
+digit_is n h = ap (λ v. if v then 48 + n - 48 else (if nat_le (48 + n) 70 then 48 + n - 55 else 48 + n - 87))
+    (le-leb (48 + n) 57 (omega (arith, h)))
     ∙ omega arith
-  where
-    le : (n : ℕ) → n < 10 → nat_le (48 + n) 57 ≡ true
-    le n h = grind (arith, nat_tests)
 
 all_append : (g : ℕ → Bool) (xs ys : List ℕ) → all g xs ≡ true → all g ys ≡ true → all g (xs ++ ys) ≡ true
 all_append g [] ys e f = f
@@ -167,10 +165,6 @@ escape_is n ds tail p h e =
     )
 
 -- Strings.
-
-more_twice : (n m : ℕ) (o : Option ℕ) → more_by n (more_by m o) ≡ more_by (n + m) o
-more_twice n m None = refl
-more_twice n m (Some l) = ap Some (omega arith)
 
 -- bytes of whole items of a string, before these bytes
 abbrev Passes : List ℕ → List ℕ → Type 0

@@ -24,6 +24,7 @@ use Rattle.hs_lex.specs.Lexicon.{quoted, kind_by, kind_of}
 use Rattle.hs_lex.specs.Longest.{Longest}
 use Rattle.hs_lex.specs.Cover.{is_sound}
 use Rattle.hs_lex.proofs.RunLemmas.{prefix_yes, prefix_no}
+use Rattle.hs_lex.proofs.NumberLemmas.{zero_other}
 use Rattle.std.proofs.Math.Bool.{and-false}
 use Rattle.flat_lex.specs.Pieces.{Piece, goes_on, of_name, of_symbol, IsPiece}
 use Rattle.flat_lex.proofs.StartLemmas.{name_byte, symbol_byte, dash_byte}
@@ -299,19 +300,12 @@ decimal_stop (b ∷ bs) d x e stop =
     else (if is_exponent_letter b then exponent (bs ++ d ∷ x) else None))) p.0
     ∙ decimal_stop bs d x p.1 stop
 
-zero_by : (b : ℕ) (ys : List ℕ) → is_hexadecimal_letter b ≡ false → is_octal_letter b ≡ false
-    → behind_zero (b ∷ ys) ≡ decimal (b ∷ ys)
-zero_by b ys h o =
-    ap (λ v. if v then run_as (is_in c.Hexadecimal) f.Hexadecimal ys
-    else (if is_octal_letter b then run_as (is_in c.Octal) f.Octal ys else decimal (b ∷ ys))) h
-    ∙ ap (λ v. if v then run_as (is_in c.Octal) f.Octal ys else decimal (b ∷ ys)) o
-
 zero_stop : (bs : List ℕ) (d : ℕ) (x : List ℕ) → all (is_in c.Digit) bs ≡ true → NoNumber d
     → behind_zero (bs ++ d ∷ x) ≡ None
-zero_stop [] d x e stop = zero_by d x stop.hexadecimal stop.octal ∙ decimal_stop [] d x e stop
+zero_stop [] d x e stop = zero_other d x stop.hexadecimal stop.octal ∙ decimal_stop [] d x e stop
 zero_stop (b ∷ bs) d x e stop =
     let h = digit_letters b (and_parts (is_in c.Digit b) (all (is_in c.Digit) bs) e).0 in
-    zero_by b (bs ++ d ∷ x) h.0 h.1 ∙ decimal_stop (b ∷ bs) d x e stop
+    zero_other b (bs ++ d ∷ x) h.0 h.1 ∙ decimal_stop (b ∷ bs) d x e stop
 
 pub number_piece : (b : ℕ) (bs : List ℕ) (kind : Kind) → start_of b ≡ s.Digit → all (is_in c.Digit) bs ≡ true
     → number_kind (b ∷ bs) f.Decimal ≡ kind → is_sound kind ≡ true →

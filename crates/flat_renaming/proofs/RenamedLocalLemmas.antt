@@ -169,7 +169,8 @@ mutual
   pats_keep end_of-Pat by = refl
   pats_keep (more_of-Pat x ps) by = λ i. pat_keeps x by i ++ pats_keep ps by i
 
-pat_list_keeps : (ps : List Pat) (by : Renaming)
+pat_list_keeps : (ps : List Pat)
+    (by : Renaming)
     → flat_map pattern_names (map (λ x. renamed_pat x by) ps) ≡ flat_map pattern_names ps
 pat_list_keeps [] by = refl
 pat_list_keeps (x ∷ ps) by = λ i. pat_keeps x by i ++ pat_list_keeps ps by i
@@ -229,7 +230,8 @@ mutual
   decl_keeps (Clause occ ps rhs) by = λ i. without (pat_list_keeps ps by i) (rhs_keeps rhs by i)
   decl_keeps (PatBind x rhs) by = rhs_keeps rhs by
 
-  decls_keep : {m : _} (ds : Row_of-Decl m) (by : Renaming)
+  decls_keep : {m : _}
+      (ds : Row_of-Decl m) (by : Renaming)
       → flat_map mentioned_in_decl (renamed_decl_row ds by) ≡ mentioned_in_decls ds
   decls_keep end_of-Decl by = refl
   decls_keep (more_of-Decl d ds) by = λ i. decl_keeps d by i ++ decls_keep ds by i

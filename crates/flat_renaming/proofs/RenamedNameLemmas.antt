@@ -18,7 +18,8 @@ use Rattle.hs_core.specs.Rename.{is_for, shown_for, renamed_at, renamed_name}
 abbrev hole_name : Text → Space → Text → OrigName
 hole_name h space occ = record { at = Hole h; space = space; occ = occ }
 
-shown_keeps : (h : Text) (space : Space) (occ : Text) (all : List Shown)
+shown_keeps : (h : Text)
+    (space : Space) (occ : Text) (all : List Shown)
     → (unwrap_or (shown_for h space occ all) (hole_name h space occ)).occ ≡ occ
 shown_keeps h space occ [] = refl
 shown_keeps h space occ (s ∷ all) = by (is_for h space occ s) refl (shown_keeps h space occ all)

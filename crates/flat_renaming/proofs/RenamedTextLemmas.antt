@@ -209,12 +209,14 @@ mutual
   pat_keeps (PAs' n s (more_of-Pat x end_of-Pat)) by = of_PAs n (renamed_pat x by) ∙ pat_keeps x by
   pat_keeps (PLazy' s (more_of-Pat x end_of-Pat)) by = of_PLazy (renamed_pat x by) ∙ pat_keeps x by
 
-  pats_keep : {m : _} (ps : Row_of-Pat m) (by : Renaming)
+  pats_keep : {m : _}
+      (ps : Row_of-Pat m) (by : Renaming)
       → all_of (map is_printable_pat (renamed_pats ps by)) ≡ are_printable_pats ps
   pats_keep end_of-Pat by = refl
   pats_keep (more_of-Pat x ps) by = λ i. pat_keeps x by i && pats_keep ps by i
 
-pat_list_keeps : (ps : List Pat) (by : Renaming)
+pat_list_keeps : (ps : List Pat)
+    (by : Renaming)
     → all_of (map is_printable_pat (map (λ x. renamed_pat x by) ps)) ≡ all_of (map is_printable_pat ps)
 pat_list_keeps [] by = refl
 pat_list_keeps (x ∷ ps) by = λ i. pat_keeps x by i && pat_list_keeps ps by i
@@ -241,7 +243,8 @@ op_keeps (ListOf' s es) by = refl
 op_keeps (RightSection' s (more_of-Exp a end_of-Exp) z (more_of-Exp b end_of-Exp)) by = refl
 op_keeps (Annot' s (more_of-Exp x end_of-Exp) ty) by = refl
 
-exps_count : {m : _} (es : Row_of-Exp m) (by : Renaming)
+exps_count : {m : _}
+    (es : Row_of-Exp m) (by : Renaming)
     → length (renamed_exp_row es by) ≡ length (exps_marks es p.Whole)
 exps_count end_of-Exp by = refl
 exps_count (more_of-Exp x es) by = ap suc (exps_count es by)
@@ -282,7 +285,8 @@ mutual
   exp_keeps (Annot' s (more_of-Exp x end_of-Exp) ty) by =
       of_Annot (renamed_exp x by) (renamed_written ty by) ∙ (λ i. exp_keeps x by i && written_keeps ty by i)
 
-  exps_keep : {m : _} (es : Row_of-Exp m) (by : Renaming)
+  exps_keep : {m : _}
+      (es : Row_of-Exp m) (by : Renaming)
       → all_of (map is_printable_exp (renamed_exp_row es by)) ≡ are_printable_exps es
   exps_keep end_of-Exp by = refl
   exps_keep (more_of-Exp x es) by = λ i. exp_keeps x by i && exps_keep es by i
@@ -295,7 +299,8 @@ mutual
   decl_keeps (Clause occ ps rhs) by = λ i. pat_list_keeps ps by i && rhs_keeps rhs by i
   decl_keeps (PatBind x rhs) by = λ i. pat_keeps x by i && rhs_keeps rhs by i
 
-  decls_keep : {m : _} (ds : Row_of-Decl m) (by : Renaming)
+  decls_keep : {m : _}
+      (ds : Row_of-Decl m) (by : Renaming)
       → all_of (map is_printable_decl (renamed_decl_row ds by)) ≡ are_printable_decls ds
   decls_keep end_of-Decl by = refl
   decls_keep (more_of-Decl d ds) by = λ i. decl_keeps d by i && decls_keep ds by i
@@ -305,7 +310,8 @@ mutual
       of_Rhs (renamed_choice_row cs by) (renamed_decl_row ds by)
       ∙ (λ i. is_shape (flags_keep cs by i) && (choices_keep cs by i && decls_keep ds by i))
 
-  choices_keep : {m : _} (cs : Row_of-Choice m) (by : Renaming)
+  choices_keep : {m : _}
+      (cs : Row_of-Choice m) (by : Renaming)
       → choices_of (renamed_choice_row cs by) ≡ are_printable_choices cs
   choices_keep end_of-Choice by = refl
   choices_keep (more_of-Choice s gs x cs) by = λ i. guards_keep gs by i && (exp_keeps x by i && choices_keep cs by i)
@@ -323,7 +329,8 @@ mutual
   alt_keeps (Alt' q rhs) by =
       of_Alt (renamed_pat q by) (renamed_rhs rhs by) ∙ (λ i. pat_keeps q by i && rhs_keeps rhs by i)
 
-  alts_keep : {m : _} (as' : Row_of-Alt m) (by : Renaming)
+  alts_keep : {m : _}
+      (as' : Row_of-Alt m) (by : Renaming)
       → all_of (map is_printable_alt (renamed_alt_row as' by)) ≡ are_printable_alts as'
   alts_keep end_of-Alt by = refl
   alts_keep (more_of-Alt a as') by = λ i. alt_keeps a by i && alts_keep as' by i

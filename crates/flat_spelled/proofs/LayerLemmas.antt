@@ -165,7 +165,8 @@ pub exp_facts_are : (x : OperandTree) → (facts_of_operand x).good ≡ true →
 unfolding fact_algebra
 exp_facts_are x e = ap good_of (exp_folded fact_algebra (ExpTree-F.Infix (chain_of x))) ∙ chain_facts x e
 
-pub apply_facts : (a : AExpTree) (rest : List AExpTree)
+pub apply_facts : (a : AExpTree)
+    (rest : List AExpTree)
     → facts_of_operand (roll-OperandTree (OperandTree-F.Apply a rest))
     ≡ closed ((facts_of_aexp a).good && all_good (map facts_of_aexp rest))
 unfolding fact_algebra
@@ -228,7 +229,8 @@ decl_slots_good (d ∷ ds) e =
     (all_good (map facts_of_decl_slot (map (λ x. roll-DeclSlot (DeclSlot-F.Decl x)) ds)))
     (ap good_of (decl_slot_folded fact_algebra (DeclSlot-F.Decl d)) ∙ both.0) (decl_slots_good ds both.1)
 
-pub decl_block_good : (ds : List DeclTree) → all_good (map facts_of_decl ds) ≡ true
+pub decl_block_good : (ds : List DeclTree)
+    → all_good (map facts_of_decl ds) ≡ true
     → (facts_of_decl_block (decl_block_of ds)).good ≡ true
 unfolding fact_algebra
 decl_block_good [] e =

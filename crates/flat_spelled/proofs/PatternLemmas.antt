@@ -5,7 +5,7 @@ use Rattle.std.proofs.Common.{arith}
 use Rattle.std.specs.Prelude.{◌&&◌, nat_lt, nat_le, replicate}
 use Rattle.std.specs.List.{flat_map}
 use Rattle.std.specs.Fmt.{decimal}
-use Rattle.std.proofs.lemmas.Bool.{and_parts, and_from}
+use Rattle.std.proofs.lemmas.Bool.{and_parts, and_from, lt-ltb}
 use Rattle.std.proofs.lemmas.Bool.Decides.{nat_tests}
 use Rattle.std.proofs.lemmas.List.{append-nil}
 use Rattle.bp_base.specs.declared.ty.OrigName.{OrigName}
@@ -70,11 +70,8 @@ tuple_of (suc count) e = record {
   tree = g.Tuple (suc count);
   spelled = seen_brackets (replicate (suc count) (Mark.word t.Comma))
       ∙ ap (λ (z : Ts). t.LeftParen ∷ (z ++ t.RightParen ∷ [])) (seen_commas (suc count));
-  good = and_from (nat_lt 0 (suc count)) (nat_lt (suc count) 15) (some count) e;
+  good = and_from (nat_lt 0 (suc count)) (nat_lt (suc count) 15) (lt-ltb 0 (suc count) (omega arith)) e;
 }
-  where
-    some : (n : ℕ) → nat_lt 0 (suc n) ≡ true
-    some n = grind (arith, nat_tests)
 
 con_by : (form : NameForm) (occ flat : List ℕ) → constructs form (length occ - 2) ≡ true
     → ConOf (global_by form occ flat)

@@ -406,7 +406,8 @@ pub clause_decl : (occ : List ℕ) (pats : List Marks) (ms : Marks) → APatsOf 
 clause_decl occ [] ms ps it = pattern_decl (bare_marks occ) ms (var_pat occ) it
 clause_decl occ (m ∷ pats) ms ps it = by ps.trees ps.spelled ps.good
   where
-    by : (trees : List APatTree) → map seen (m ∷ pats) ≡ map spelling_apat trees → all_of (map is_apat trees) ≡ true
+    by : (trees : List APatTree)
+        → map seen (m ∷ pats) ≡ map spelling_apat trees → all_of (map is_apat trees) ≡ true
         → DeclOf (bare_marks occ ++ (spaced (m ∷ pats) ++ ms))
     by [] e h = cc
     by (a ∷ trees) e h =

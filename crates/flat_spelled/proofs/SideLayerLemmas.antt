@@ -209,7 +209,8 @@ pub locals_tokens_are : (d : DeclTree) (ds : List DeclTree)
 unfolding token_algebra
 locals_tokens_are d ds = locals_folded token_algebra (Locals-F.Where (decl_block_of (d ∷ ds)))
 
-pub locals_good : (ds : List DeclTree) → all_good (map facts_of_decl ds) ≡ true
+pub locals_good : (ds : List DeclTree)
+    → all_good (map facts_of_decl ds) ≡ true
     → (facts_of_locals (locals_of ds)).good ≡ true
 unfolding fact_algebra
 locals_good [] e = ap good_of (locals_folded fact_algebra Locals-F.Absent)

@@ -5,7 +5,7 @@ use Rattle.std.proofs.Common.{append_assoc, arith}
 use Rattle.std.specs.Prelude.{◌&&◌, ◌==◌, nat_lt, replicate, codes, if◌then◌else◌}
 use Rattle.std.specs.List.{flat_map}
 use Rattle.std.specs.Str.{bytes_eq}
-use Rattle.std.proofs.lemmas.Bool.{and_parts, and_from, eqb-true}
+use Rattle.std.proofs.lemmas.Bool.{and_parts, and_from, eqb-true, lt-ltb}
 use Rattle.std.proofs.lemmas.Bool.Decides.{nat_tests}
 use Rattle.std.proofs.lemmas.List.{append-nil}
 use Rattle.bp_base.specs.declared.ty.OrigName.{OrigName}
@@ -289,11 +289,8 @@ count_name (suc count) e = record {
       ∙ ap (λ (z : Ts). t.LeftParen ∷ (z ++ t.RightParen ∷ [])) (seen_commas (suc count))
       ∙ sym (atype_spelled (ATypeTree-F.TupleCon (suc count)));
   good = atype_is (ATypeTree-F.TupleCon (suc count)) ∙ and_from (nat_lt 0 (suc count)) (nat_lt (suc count) 15)
-      (some count) e;
+      (lt-ltb 0 (suc count) (omega arith)) e;
 }
-  where
-    some : (n : ℕ) → nat_lt 0 (suc n) ≡ true
-    some n = grind (arith, nat_tests)
 
 name_by : (form : NameForm) (occ flat : List ℕ) → names_type form (length occ - 2) ≡ true
     → ATypeOf (global_by form occ flat)

@@ -97,7 +97,8 @@ unfolding written
 data_word_is true = refl
 data_word_is false = refl
 
-pub text_data : (occ : List ℕ) (is_new : Bool) (params : List (List ℕ)) (cons : List ConDecl)
+pub text_data : (occ : List ℕ)
+    (is_new : Bool) (params : List (List ℕ)) (cons : List ConDecl)
     → written (data_marks occ is_new params cons)
     ≡ data_text is_new ++ (codes " " ++ (bare_text occ ++ (names_text (codes " ") (codes " ") params
     ++ cons_text cons)))

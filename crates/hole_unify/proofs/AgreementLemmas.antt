@@ -17,22 +17,18 @@ use Rattle.bp_base.proofs.TextLemmas.{same_texts, texts_same, Before-transitive,
 use Rattle.bp_base.proofs.TextLemmas.{one_name}
 use Rattle.hole_unify.specs.Unifiers.{IsAnswer}
 use Rattle.hole_unify.proofs.UnifyingLemmas.{Module-unit}
+use Rattle.hole_unify.proofs.CauseLemmas.{list-head, list-tail}
 use mathlib.Core.Former.{list_count, this, none_left}
 
 -- what fills to a hole is a hole
-hole-filled : (i : Ident) (f : List Fill) (m : List ℕ) → filled i f ≡ Hole m → (n : List ℕ) × (i ≡ Hole n)
+pub hole-filled : (i : Ident) (f : List Fill) (m : List ℕ) → filled i f ≡ Hole m → (n : List ℕ) × (i ≡ Hole n)
 hole-filled (Hole n) f m e = (n, refl)
 hole-filled (Module' s (more_of-Unit u end_of-Unit) k) f m e = cc
 
 module _ (f g : List Fill) (keeps : (m : List ℕ) → at_hole m f ≡ Hole m → at_hole m g ≡ Hole m) where
-  rows-head : (a b : Fill) (l k : List Fill) → a ∷ l ≡ b ∷ k → a ≡ b
-  rows-head a b l k e = cc
-
-  rows-tail : (a b : Fill) (l k : List Fill) → a ∷ l ≡ b ∷ k → l ≡ k
-  rows-tail a b l k e = cc
-
   -- the fills of a filled unit
-  fills-of-filled : (c : List ℕ) (s : List (Unit {0})) (r : Row_of-Fill (list_count this s none_left))
+  fills-of-filled : (c : List ℕ)
+      (s : List (Unit {0})) (r : Row_of-Fill (list_count this s none_left))
       (h : List Fill) → (out-Unit (filled_unit (Unit' c s r) h)).fills ≡ filled_row r h
   fills-of-filled c s r h = ap (λ o. o.fills) (out-roll-Unit (record { component = c; fills = filled_row r h }))
 
@@ -53,10 +49,8 @@ module _ (f g : List Fill) (keeps : (m : List ℕ) → at_hole m f ≡ Hole m �
     kept_row : {m : _} (r : Row_of-Fill m) → filled_row r f ≡ fills_of r → filled_row r g ≡ fills_of r
     kept_row end_of-Fill e = refl
     kept_row (more_of-Fill h i r) e =
-        let first = ap (λ a. a.ident) (rows-head (record { hole = h; ident = filled i f })
-        (record { hole = h; ident = i }) (filled_row r f) (fills_of r) e) in
-        let rest = rows-tail (record { hole = h; ident = filled i f }) (record { hole = h; ident = i }) (filled_row r f)
-        (fills_of r) e in
+        let first = ap (λ (x : Fill). x.ident) (list-head e) in
+        let rest = list-tail e in
         λ k. record { hole = h; ident = kept i first k } ∷ kept_row r rest k
 
 -- a hole that one answer keeps, the other keeps

@@ -29,6 +29,7 @@ use Rattle.hole_unify.specs.Tables.{In, IsTable}
 use Rattle.hole_unify.specs.Close.{IsSettled}
 use Rattle.hole_unify.specs.Build.{built_at, inserted, put, hole_put, term_put, answer}
 use Rattle.hole_unify.proofs.TermLemmas.{same_terms, terms_same}
+use Rattle.hole_unify.proofs.CauseLemmas.{list-head, list-tail}
 use Rattle.hole_unify.proofs.TableLemmas.{class_at-found}
 use Rattle.hole_unify.proofs.GapLemmas.{fill-class, one_head, one_fill}
 use Rattle.hole_unify.specs.IsFaithful.{Builds, NoFills, MoreFills, made, IsEntry, IsFaithful}
@@ -323,12 +324,6 @@ module _ (es : List Equation) (lawful : IsLawful es) (nodes : List Node) (s : Is
     fit (x ∷ us) (y ∷ vs) e h =
         let first : x.hole ≡ y.hole = list-head e in
         (first, h x y (inl refl) (inl refl) first, fit us vs (list-tail e) (λ v w a b c. h v w (inr a) (inr b) c))
-      where
-        list-head : {A : Type 0} {a b : A} {l k : List A} → a ∷ l ≡ b ∷ k → a ≡ b
-        list-head e = cc
-
-        list-tail : {A : Type 0} {a b : A} {l k : List A} → a ∷ l ≡ b ∷ k → l ≡ k
-        list-tail e = cc
 
     fitting : (u v : OfUnit) (m n : Text) (k : ℕ) → In nodes (Module u m) k → In nodes
         (Module v n) k → Fit (out-Unit u).fills (out-Unit v).fills

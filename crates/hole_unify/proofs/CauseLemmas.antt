@@ -11,10 +11,10 @@ use Rattle.hole_unify.specs.Classes.{HasHeads, IsLeastCycle}
 use Rattle.hole_unify.specs.Causes.{FailsAt, IsCause}
 use Rattle.hole_unify.specs.Laws.{SameCause}
 
-list-head : {A : Type 0} {a b : A} {l k : List A} → a ∷ l ≡ b ∷ k → a ≡ b
+pub list-head : {A : Type 0} {a b : A} {l k : List A} → a ∷ l ≡ b ∷ k → a ≡ b
 list-head e = cc
 
-list-tail : {A : Type 0} {a b : A} {l k : List A} → a ∷ l ≡ b ∷ k → l ≡ k
+pub list-tail : {A : Type 0} {a b : A} {l k : List A} → a ∷ l ≡ b ∷ k → l ≡ k
 list-tail e = cc
 
 -- how two places of one list lie to each other
@@ -37,7 +37,7 @@ places (x ∷ xs) (y ∷ ys) a k e d is = more (places xs ys a k e d (list-tail 
     more (Later m p) = Later m (λ w. first w ∷ p w)
     more (Sooner m p) = Sooner m (λ w. sym first w ∷ p w)
 
-front-unifier : (a b : List Equation) (f : List Fill) → IsUnifier (a ++ b) f → IsUnifier a f
+pub front-unifier : (a b : List Equation) (f : List Fill) → IsUnifier (a ++ b) f → IsUnifier a f
 front-unifier [] b f u = tt
 front-unifier (e ∷ a) b f u = (u.0, front-unifier a b f u.1)
 

@@ -27,7 +27,8 @@ pub units_of-Module : (u : OfUnit) (m : Text) → units_of (Module u m) ≡ u �
 unfolding hidden-the_row-Unit-0 hidden
 units_of-Module u m = refl
 
-units-row : (c : Text) (s : List (Unit {0})) (r : Row_of-Fill (list_count this s none_left))
+units-row : (c : Text)
+    (s : List (Unit {0})) (r : Row_of-Fill (list_count this s none_left))
     → units_of_row r ≡ units_in_fills (out-Unit (Unit' c s r)).fills
 unfolding out-Unit out shown-the_row-Fill-1 shown
 units-row c [] end_of-Fill = refl

@@ -25,7 +25,8 @@ pub node-front : (table : List Ident) (classes : List ℕ) (i : ℕ) → length 
 node-front table classes i le lt = let e : i + 1 ≡ suc i = omega arith in
     go table classes i le lt ∙ ap (λ n. node_at table classes i ∷ drop n (nodes_of table classes)) (sym e)
   where
-    go : (ts : List Ident) (ks : List ℕ) (i : ℕ) → length ks ≤ length ts → i < length ks
+    go : (ts : List Ident)
+        (ks : List ℕ) (i : ℕ) → length ks ≤ length ts → i < length ks
         → drop i (nodes_of ts ks) ≡ node_at ts ks i ∷ drop (suc i) (nodes_of ts ks)
     go ts [] i le lt = absurd (omega (arith, lt))
     go [] (k ∷ ks) i le lt = absurd (omega (arith, le))

@@ -14,7 +14,8 @@ use Rattle.hole_unify.specs.Table.{is_module, is_same, is_same_unit, is_same_row
 use mathlib.Core.Former.{list_count, this, none_left}
 use denote.Hole.Carrier.{hidden, out, shown}
 
-terms-row : (c : List ℕ) (s : List (Unit {0})) (r : Row_of-Fill (list_count this s none_left))
+terms-row : (c : List ℕ)
+    (s : List (Unit {0})) (r : Row_of-Fill (list_count this s none_left))
     → terms_of_row r ≡ terms_in_fills (out-Unit (Unit' c s r)).fills
 unfolding out-Unit out shown-the_row-Fill-1 shown
 terms-row c [] end_of-Fill = refl

@@ -129,7 +129,8 @@ pub weight-Module : (u : OfUnit) (m : List ℕ) → weight (Module u m) ≡ suc 
 unfolding hidden-the_row-Unit-0 hidden
 weight-Module u m = refl
 
-weight_row-list : (c : List ℕ) (s : List (Unit {0})) (r : Row_of-Fill (list_count this s none_left))
+weight_row-list : (c : List ℕ)
+    (s : List (Unit {0})) (r : Row_of-Fill (list_count this s none_left))
     → weight_row r ≡ weights (out-Unit (Unit' c s r)).fills
 unfolding out-Unit out shown-the_row-Fill-1 shown
 weight_row-list c [] end_of-Fill = refl

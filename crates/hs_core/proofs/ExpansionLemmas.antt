@@ -380,17 +380,17 @@ expandable_from S t u e = record {
 
 -- ---- where it should, a type expands
 
-abbrev drop_at : (n : OrigName) (ns : List OrigName) → Among n ns → List OrigName
+abbrev pub drop_at : (n : OrigName) (ns : List OrigName) → Among n ns → List OrigName
 drop_at n [] h = absurd h
 drop_at n (m ∷ ms) (inl p) = ms
 drop_at n (m ∷ ms) (inr h) = m ∷ drop_at n ms h
 
-drop_count : (n : OrigName) (ns : List OrigName) (h : Among n ns) → count ns ≡ suc (count (drop_at n ns h))
+pub drop_count : (n : OrigName) (ns : List OrigName) (h : Among n ns) → count ns ≡ suc (count (drop_at n ns h))
 drop_count n [] h = absurd h
 drop_count n (m ∷ ms) (inl p) = refl
 drop_count n (m ∷ ms) (inr h) = ap suc (drop_count n ms h)
 
-among_others : (m n : OrigName) (ns : List OrigName) (h : Among n ns) → Among m ns → (n ≡ m → ⊥)
+pub among_others : (m n : OrigName) (ns : List OrigName) (h : Among n ns) → Among m ns → (n ≡ m → ⊥)
     → Among m (drop_at n ns h)
 among_others m n [] h k other = absurd h
 among_others m n (x ∷ xs) (inl p) (inl q) other = absurd (other (sym p ∙ q))
@@ -398,7 +398,7 @@ among_others m n (x ∷ xs) (inl p) (inr k) other = k
 among_others m n (x ∷ xs) (inr h) (inl q) other = inl q
 among_others m n (x ∷ xs) (inr h) (inr k) other = inr (among_others m n xs h k other)
 
-apply_each : (S : Synonyms) (t u : TypeTerm) (ts us : List TypeTerm) → Expands S t u → ExpandEach S ts us
+pub apply_each : (S : Synonyms) (t u : TypeTerm) (ts us : List TypeTerm) → Expands S t u → ExpandEach S ts us
     → Expands S (applied_to t ts) (applied_to u us)
 apply_each S t u _ _ h none = h
 apply_each S t u _ _ h (each a b ts us x y) = apply_each S (app t a) (app u b) ts us (application t a u b h x) y
@@ -443,7 +443,7 @@ parted S (suc p) _ _ (each t u ts us x y) l =
       rest_expand = h.rest_expand;
     }
 
-applied_append : (t : TypeTerm) (as' bs : List TypeTerm) → applied_to t (as' ++ bs) ≡ applied_to (applied_to t as') bs
+pub applied_append : (t : TypeTerm) (as' bs : List TypeTerm) → applied_to t (as' ++ bs) ≡ applied_to (applied_to t as') bs
 applied_append t [] bs = refl
 applied_append t (a ∷ as') bs = applied_append (app t a) as' bs
 
@@ -486,7 +486,7 @@ expandable_body S t n s h q e = record {
 abbrev CoversMet : Synonyms → TypeTerm → List OrigName → Type 0
 CoversMet S t names = (n : OrigName) → IsMet S t n → IsSome (S n) → Among n names
 
-some_of : (S : Synonyms) (n : OrigName) (s : Synonym) → S n ≡ Some s → IsSome (S n)
+pub some_of : (S : Synonyms) (n : OrigName) (s : Synonym) → S n ≡ Some s → IsSome (S n)
 some_of S n s q = ap is_some q
 
 no_names_left : (names : List OrigName) (n : OrigName) → count names ≤ 0 → Among n names → ⊥

@@ -3,6 +3,7 @@ use Rattle.std.proofs.Common.{◌≡◌, ℕ, zero, suc, ◌+◌, Bool, true, fa
 use Rattle.std.proofs.Common.{sym, ap, ◌∙◌, subst, true≢false, arith, append_assoc, inl, inr}
 use Rattle.std.specs.Prelude.{map, flat_map, not, nat_eq, nat_lt, replicate, ◌&&◌, ◌||◌, Some, None}
 use Rattle.std.specs.Str.{bytes_eq}
+use Rattle.std.proofs.lemmas.Bool.{not-true}
 use Rattle.std.proofs.lemmas.Bool.Decides.{nat_tests}
 use Rattle.std.proofs.lemmas.List.{append-nil}
 use Rattle.hs_forms.specs.Reading.{begins}
@@ -15,6 +16,7 @@ use Rattle.hs_trees.specs.declared.patterns.LiteralTree.{LiteralTree}
 use Rattle.hs_trees.specs.declared.patterns.LiteralTree.TheVariants as l
 use Rattle.hs_trees.specs.declared.patterns.GConTree.TheVariants as g
 use Rattle.hs_trees.specs.declared.patterns.QConOpTree.TheVariants as o
+use Rattle.hs_trees.proofs.PatternAtomLemmas.{named_tokens}
 use Rattle.hs_modules.specs.Words.{qop_tokens, is_bare_minus, bracketed}
 use Rattle.hs_modules.specs.Tokens.{spelling_aexp, spelling_exp, spelling_infix, sign_tokens}
 use Rattle.hs_modules.specs.Tokens.{spelling_signed}
@@ -115,17 +117,9 @@ opens_not (_ ∷ ts) h = refl
 
 pub right_class : (op : QOpTree) (ts : Ts) → not_right_paren ts ≡ true → not (is_bare_minus op) ≡ true →
     paren_class (qop_tokens op ++ ts) ≡ 13
-right_class (qo.Sym n) [] h b = ap minus_class (off (bytes_eq n minus) b)
-  where
-    off : (b : Bool) → not b ≡ true → b ≡ false
-    off true e = sym e
-    off false e = refl
+right_class (qo.Sym n) [] h b = ap minus_class (not-true (bytes_eq n minus) b)
 right_class (qo.Sym n) (t.RightParen ∷ ts) h b = absurd (true≢false (sym h))
-right_class (qo.Sym n) (_ ∷ ts) h b = ap minus_class (off (bytes_eq n minus) b)
-  where
-    off : (b : Bool) → not b ≡ true → b ≡ false
-    off true e = sym e
-    off false e = refl
+right_class (qo.Sym n) (_ ∷ ts) h b = ap minus_class (not-true (bytes_eq n minus) b)
 right_class (qo.Quoted n) ts h b = refl
 right_class (qo.QualifiedSym n) [] h b = refl
 right_class (qo.QualifiedSym n) (t.RightParen ∷ ts) h b = absurd (true≢false (sym h))
@@ -277,10 +271,6 @@ literal_class : (x : LiteralTree) (after : Ts) → aexp_class (literal_token x �
 literal_class (l.Integer n) after = refl
 literal_class (l.Char n) after = refl
 literal_class (l.Text n) after = refl
-
-named_tokens : (n : ℕ) → gcon_tokens (named_con n) ≡ t.LeftParen ∷ (replicate n t.Comma ++ t.RightParen ∷ [])
-named_tokens zero = refl
-named_tokens (suc n) = refl
 
 view_by : (x y : AExpTree) (n : ℕ) (ts : Ts) → x ≡ y → AExpOf y n → spelling_aexp y ≡ ts →
     ((after : Ts) → aexp_class (ts ++ after) ≡ n) → AExpView x

@@ -2,7 +2,7 @@
 use Rattle.std.proofs.Common.{◌≡◌, ℕ, ◌+◌, Bool, true, false, [], ◌∷◌, ◌++◌, length, refl}
 use Rattle.std.proofs.Common.{sym, ap, ◌∙◌, subst, true≢false, arith, append_assoc}
 use Rattle.std.specs.Prelude.{max, not, ◌&&◌, Option, Some, None}
-use Rattle.std.proofs.lemmas.Bool.{and_from}
+use Rattle.std.proofs.lemmas.Bool.{and_from, not-true, not_from_false}
 use Rattle.std.proofs.lemmas.List.{append-nil}
 use Rattle.hs_forms.specs.Reading.{SameStart, begins, Refuses}
 use Rattle.hs_forms.specs.Limits.{Within, lowered}
@@ -37,7 +37,6 @@ use Rattle.hs_expression_forms.specs.Expressions.{starts_qop}
 use Rattle.hs_expression_forms.specs.Links.{Links, links}
 use Rattle.hs_expression_forms.specs.Fronts.{front_tokens, front_deep, front_goes_on, fronts}
 use Rattle.hs_expression_forms.proofs.StarterLemmas.{goes_on_fewer, type_quiet}
-use Rattle.hs_expression_forms.proofs.PieceLemmas.{not_on, not_off}
 
 pub plain_spelled : (x : InfixTree) → spelling_exp (v.Infix x) ≡ spelling_infix x
 unfolding token_algebra
@@ -145,7 +144,7 @@ module _ (lone : Bool) (limit : Option ℕ) where
           let both = and_left (is_infix c && not (facts_of_infix c).is_open) _ g in
           let deep = subst (Within limit) (ap (λ y. depth_of_exp y) is ∙ typed_deep c ty) good.1 in
           of_typed c ty (ap fr.Exp is) (and_left (is_infix c) _ both, within_less limit _ _ (omega arith) deep)
-          (not_on (facts_of_infix c).is_open (and_right (is_infix c) _ both))
+          (not-true (facts_of_infix c).is_open (and_right (is_infix c) _ both))
           (and_right (is_infix c && not (facts_of_infix c).is_open) _ g) deep
           (begins_within (exp_goes_on (facts_of_exp x)) (types.extends ty) after
           (λ k h. type_quiet true true k (ap (λ b. goes_on true true b k) (sym (ap (λ y.
@@ -175,7 +174,7 @@ module _ (lone : Bool) (limit : Option ℕ) where
       (within types (lowered limit 1)).Good ty →
       (within (fronts lone) limit).Good (fr.Exp (v.Annotated x ty))
   typed_good x ty good shut room g = (
-    ap good_of (typed_facts x ty) ∙ and_from _ _ (and_from (is_infix x) _ good.0 (not_off
+    ap good_of (typed_facts x ty) ∙ and_from _ _ (and_from (is_infix x) _ good.0 (not_from_false
         (facts_of_infix x).is_open shut)) g.0,
     subst (Within limit) (sym (typed_deep x ty)) (within_max limit (depth_of_infix x) (depth_of_type ty) 1 room
         (within_raised limit (depth_of_type ty) 1 (within_less limit _ _ (omega arith) room) g.1)),

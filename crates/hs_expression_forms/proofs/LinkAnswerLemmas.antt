@@ -60,10 +60,6 @@ least_operand_good limit =
     let deep : depth_of_operand least_operand ≡ max (depth_of_aexp (a.Con g.Unit)) 0 = apply_deep (a.Con g.Unit, []) in
     (is, subst (Within limit) (sym (omega (arith, deep, con_deep g.Unit))) (within_zero limit))
 
-flip : (b : Bool) → (b ≡ true → ⊥) → b ≡ false
-flip true h = absurd (h refl)
-flip false h = refl
-
 none_begins : (l : Ts) → begins (λ k. false) l ≡ false
 none_begins [] = refl
 none_begins (k ∷ l) = refl

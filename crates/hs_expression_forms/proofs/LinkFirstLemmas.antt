@@ -102,7 +102,8 @@ module _ (limit : Option ℕ) (ts : Ts) (x : InfixTree) (here : Ts) (deep ops : 
   last_shut shut = let last = infix_last x in ap maybe_open last.1 ∙ last.2 ∙ shut
 
   -- the state of the pieces behind one more operand
-  step_state : (facts_of_infix x).is_open ≡ false → (op : QOpTree) (rest : Ts) → here ≡ qop_tokens op ++ rest →
+  step_state : (facts_of_infix x).is_open ≡ false →
+      (op : QOpTree) (rest : Ts) → here ≡ qop_tokens op ++ rest →
       (b : Bool) (e : OperandTree) (next rest' : Ts) (m : ℕ) → rest ≡ sign_tokens b ++ next →
       Took operands (lowered limit ((ops + 1) + sign b)) next e rest' m →
       State (pieces_chain limit) ts (links_head (x, None)) (chain_pieces x ++ link_of op b e) rest' (max deep m)
@@ -153,7 +154,8 @@ module _ (limit : Option ℕ) (ts : Ts) (x : InfixTree) (here : Ts) (deep ops : 
   link_long op true e = omega arith
   link_long op false e = omega arith
 
-  pub link_step : (facts_of_infix x).is_open ≡ false → (op : QOpTree) (rest : Ts) → here ≡ qop_tokens op ++ rest →
+  pub link_step : (facts_of_infix x).is_open ≡ false →
+      (op : QOpTree) (rest : Ts) → here ≡ qop_tokens op ++ rest →
       (s : SignedOperand) (rest' : Ts) (m : ℕ) → SignedTook limit deep (ops + 1) rest s rest' m →
       LinkState limit ts (make_infix (out-InfixTree x).first ((out-InfixTree x).rest ++ make_link op s ∷ [])) rest'
       (max deep m) ((ops + 1) + sign (negated_of s))

@@ -2,6 +2,7 @@
 use Rattle.std.proofs.Common.{◌≡◌, ℕ, ◌+◌, Bool, true, false, List, [], ◌∷◌, ◌++◌, length, refl, sym}
 use Rattle.std.proofs.Common.{ap, ◌∙◌, subst, arith, append_assoc}
 use Rattle.std.specs.Prelude.{map, max, sum, not, flat_map, ◌&&◌, Option, Some, None}
+use Rattle.std.proofs.lemmas.Bool.{not-true, or_from}
 use Rattle.std.proofs.lemmas.List.{append-nil}
 use Rattle.std.proofs.lemmas.List.Folds.{flat_map-map}
 use Rattle.std.specs.List.{fold}
@@ -24,6 +25,7 @@ use Rattle.hs_modules.specs.declared.expressions.OpOperand.{OpOperand, out-OpOpe
 use Rattle.hs_modules.specs.declared.expressions.OpOperand.{roll-out-OpOperand}
 use Rattle.hs_modules.specs.declared.expressions.SignedOperand.{SignedOperand, out-SignedOperand}
 use Rattle.hs_modules.specs.declared.expressions.SignedOperand.{roll-out-SignedOperand}
+use Rattle.hs_modules.proofs.MeasuringLemmas.{sum_first}
 use Rattle.hs_modules.proofs.FoldingLemmas.{infix_folded, link_folded, signed_folded}
 use Rattle.hs_expression_forms.specs.Trees.{within}
 use Rattle.hs_expression_forms.specs.Expressions.{is_operand, depth_of_operand, goes_on}
@@ -33,8 +35,8 @@ use Rattle.hs_expression_forms.specs.Links.{Piece, piece_tokens, piece_formed, p
 use Rattle.hs_expression_forms.specs.Links.{last_maybe, pieces_formed, Placed, pieces_form, head_of, sign_of, link_of}
 use Rattle.hs_expression_forms.specs.Links.{pieces_of_link, head_piece, first_pieces, tail_pieces, Links, links_head}
 use Rattle.hs_expression_forms.specs.Links.{links_pieces, tail_tokens, links}
-use Rattle.hs_expression_forms.proofs.StarterLemmas.{goes_on_fewer, or_off}
-use Rattle.hs_expression_forms.proofs.PieceLemmas.{pieces_more, not_on}
+use Rattle.hs_expression_forms.proofs.StarterLemmas.{goes_on_fewer}
+use Rattle.hs_expression_forms.proofs.PieceLemmas.{pieces_more}
 
 abbrev pub negated_of : SignedOperand → Bool
 negated_of s = (out-SignedOperand s).negated
@@ -112,7 +114,8 @@ infix_extent x =
     (out-InfixTree x))
 
 -- tokens
-link_of_spelled : (op : QOpTree) (b : Bool) (e : OperandTree) →
+link_of_spelled : (op : QOpTree)
+    (b : Bool) (e : OperandTree) →
     flat_map piece_tokens (link_of op b e) ≡ qop_tokens op ++ (sign_tokens b ++ spelling_operand e)
 link_of_spelled op true e = simp (append-nil)
 link_of_spelled op false e = simp (append-nil)
@@ -163,7 +166,8 @@ link_of_deep : (op : QOpTree) (b : Bool) (e : OperandTree) (ps : List Piece) →
 link_of_deep op true e ps = omega arith
 link_of_deep op false e ps = refl
 
-link_of_long : (op : QOpTree) (b : Bool) (e : OperandTree) (ps : List Piece) →
+link_of_long : (op : QOpTree)
+    (b : Bool) (e : OperandTree) (ps : List Piece) →
     length (link_of op b e ++ ps) ≡ (1 + sign b) + length ps
 link_of_long op true e ps = omega arith
 link_of_long op false e ps = omega arith
@@ -177,27 +181,17 @@ pieces_deep (x ∷ xs) =
     ∙ ap (λ n. max (depth_of_operand (operand_of o.operand)) n) (pieces_deep xs)
     ∙ sym (link_of_deep o.op (negated_of o.operand) (operand_of o.operand) (flat_map pieces_of_link xs))
 
-fold_add : (a b : ℕ) (ns : List ℕ) → fold ◌+◌ (a + b) ns ≡ a + fold ◌+◌ b ns
-fold_add a b [] = refl
-fold_add a b (n ∷ ns) =
-    let regroup : (a + b) + n ≡ a + (b + n) = omega arith in
-    ap (λ c. fold ◌+◌ c ns) regroup ∙ fold_add a (b + n) ns
-
-sum_cons : (n : ℕ) (ns : List ℕ) → sum (n ∷ ns) ≡ n + sum ns
-sum_cons n ns =
-    let swap : 0 + n ≡ n + 0 = omega arith in
-    ap (λ c. fold ◌+◌ c ns) swap ∙ fold_add n 0 ns
-
 pieces_long : (xs : List OpOperand) → sum (map (λ o. o.0) (link_pairs xs)) ≡ length (flat_map pieces_of_link xs)
 pieces_long [] = refl
 pieces_long (x ∷ xs) =
     let o = out-OpOperand x in
-    sum_cons (folded_link extent_algebra x).0 (map (λ o. o.0) (link_pairs xs))
+    sum_first (folded_link extent_algebra x).0 (map (λ o. o.0) (link_pairs xs))
     ∙ ap (λ (e : ℕ × Extent). e.0 + sum (map (λ o. o.0) (link_pairs xs))) (link_extent x)
     ∙ ap (λ n. (1 + sign (negated_of o.operand)) + n) (pieces_long xs)
     ∙ sym (link_of_long o.op (negated_of o.operand) (operand_of o.operand) (flat_map pieces_of_link xs))
 
-first_deep : (b : Bool) (e : OperandTree) (ps : List Piece) →
+first_deep : (b : Bool)
+    (e : OperandTree) (ps : List Piece) →
     max (maybe_deep (head_of b e)) (deepest (map piece_deep (sign_of b e ++ ps))) + length (sign_of b e ++ ps)
     ≡ max (depth_of_operand e) (deepest (map piece_deep ps)) + (sign b + length ps)
 first_deep true e ps = omega arith
@@ -218,7 +212,8 @@ infix_deep x =
     ∙ sym (first_deep (negated_of o.first) (operand_of o.first) (flat_map pieces_of_link o.rest))
 
 -- good trees
-link_of_formed : (op : QOpTree) (b : Bool) (e : OperandTree) (ps : List Piece) →
+link_of_formed : (op : QOpTree)
+    (b : Bool) (e : OperandTree) (ps : List Piece) →
     all_of (map piece_formed (link_of op b e ++ ps)) ≡ is_operand e && all_of (map piece_formed ps)
 link_of_formed op true e ps = refl
 link_of_formed op false e ps = refl
@@ -285,7 +280,8 @@ pieces_last m f is (x ∷ xs) =
     let found = pieces_last (Some e) (facts_of_link x) (e, refl, sym (link_facts x)) xs in
     (found.0, link_of_last m o.op (negated_of o.operand) e (flat_map pieces_of_link xs) ∙ found.1, found.2)
 
-first_last : (b : Bool) (e : OperandTree) (ps : List Piece) →
+first_last : (b : Bool)
+    (e : OperandTree) (ps : List Piece) →
     last_maybe (head_of b e) (sign_of b e ++ ps) ≡ last_maybe (Some e) ps
 first_last true e ps = refl
 first_last false e ps = refl
@@ -334,7 +330,7 @@ module _ (limit : Option ℕ) where
       let last = infix_last x in
       pieces_more limit (links_head (x, None)) (first_pieces (out-InfixTree x).first (out-InfixTree x).rest) (op, None)
       (infix_good x (and_left (is_infix x) _ is) good.1)
-      (ap maybe_open last.1 ∙ last.2 ∙ not_on (facts_of_infix x).is_open (and_right (is_infix x) _ is))
+      (ap maybe_open last.1 ∙ last.2 ∙ not-true (facts_of_infix x).is_open (and_right (is_infix x) _ is))
       (refl, lowest (lowered limit (length (first_pieces (out-InfixTree x).first (out-InfixTree x).rest) + 1)))
     where
       lowest : (l : Option ℕ) → Within l 0
@@ -354,12 +350,12 @@ links_quiet lone limit (x, None) k e =
     let f = facts_of_infix x in
     let m : last_maybe (links_head (x, None)) (ps ++ []) ≡ Some last.0 =
     ap (last_maybe (links_head (x, None))) (append-nil ps) ∙ last.1 in
-    or_off _ _ (or_left (starts_qop k) _ (or_right (starts_aexp k) _ e))
+    or_from _ _ (or_left (starts_qop k) _ (or_right (starts_aexp k) _ e))
     (ap (λ m. maybe_goes_on m k) m
     ∙ ap (λ b. goes_on b b (facts_of_operand last.0).ends_in_type k) last.2
     ∙ ap (λ b. goes_on f.is_open f.is_open b k) last.3
     ∙ goes_on_fewer true f.is_open f.ends_in_type f.is_open f.is_open f.ends_in_type k (λ h. refl) (λ h. h) (λ h. h) e)
 links_quiet lone limit (x, Some op) k e =
     let ps = first_pieces (out-InfixTree x).first (out-InfixTree x).rest in
-    or_off _ _ (or_right (starts_operand k) _ e)
+    or_from _ _ (or_right (starts_operand k) _ e)
     (ap (λ m. maybe_goes_on m k) (last_tail (links_head (x, None)) ps op) ∙ or_left (starts_operand k) _ e)

@@ -2,6 +2,7 @@
 use Rattle.std.proofs.Common.{◌≡◌, ℕ, ◌+◌, ◌≤◌, Bool, true, false, List, [], ◌∷◌, ◌++◌, length, refl}
 use Rattle.std.proofs.Common.{sym, ap, ◌∙◌, arith, length-append, append_assoc}
 use Rattle.std.specs.Prelude.{map, flat_map, Option, Some, None}
+use Rattle.std.proofs.lemmas.Option.{same_Some}
 use Rattle.std.proofs.lemmas.List.{append-nil}
 use Rattle.hs_forms.specs.Reading.{SameStart, begins}
 use Rattle.hs_forms.specs.Limits.{Within, deepest}
@@ -53,7 +54,8 @@ link_is : (x : OpOperand) →
 link_is x =
     ap (λ s. make_link (out-OpOperand x).op s) (roll-out-SignedOperand (out-OpOperand x).operand) ∙ roll-out-OpOperand x
 
-unlinks_link : (op : QOpTree) (b : Bool) (e : OperandTree) (ps : List Piece) →
+unlinks_link : (op : QOpTree)
+    (b : Bool) (e : OperandTree) (ps : List Piece) →
     unlinks (link_of op b e ++ ps) ≡ (make_link op (make_signed b e) ∷ (unlinks ps).0, (unlinks ps).1)
 unfolding unlinks
 unlinks_link op true e ps = refl
@@ -81,7 +83,8 @@ unpieces None [] = None
 unpieces None ((m, Some e) ∷ ps) = Some (make_signed true e, unlinks ps)
 unpieces None ((m, None) ∷ ps) = None
 
-unpieces_first : (b : Bool) (e : OperandTree) (ps : List Piece) →
+unpieces_first : (b : Bool)
+    (e : OperandTree) (ps : List Piece) →
     unpieces (head_of b e) (sign_of b e ++ ps) ≡ Some (make_signed b e, unlinks ps)
 unfolding unpieces
 unpieces_first true e ps = refl
@@ -98,9 +101,6 @@ unpieces_links l =
     ∙ ap (λ r. Some (make_signed (negated_of o.first) (operand_of o.first), r)) (unlinks_pieces o.rest l.1)
     ∙ ap (λ s. Some (s, (o.rest, l.1))) (roll-out-SignedOperand o.first)
 
-some_same : {A : Type 0} (x y : A) → Some x ≡ Some y → x ≡ y
-some_same x y e = cc
-
 abbrev rebuilt : SignedOperand × (List OpOperand × Option QOpTree) → Links
 rebuilt p = (make_infix p.0 p.1.0, p.1.1)
 
@@ -111,7 +111,7 @@ links_same l l' h ps =
     let e : Some (o.first, (o.rest, l.1)) ≡ Some (o'.first, (o'.rest, l'.1)) =
     sym (unpieces_links l) ∙ ap (λ m. unpieces m (links_pieces l)) h ∙ ap (unpieces (links_head l')) ps
     ∙ unpieces_links l' in
-    let e' = ap rebuilt (some_same (o.first, (o.rest, l.1)) (o'.first, (o'.rest, l'.1)) e) in
+    let e' = ap rebuilt (same_Some (o.first, (o.rest, l.1)) (o'.first, (o'.rest, l'.1)) e) in
     ap (λ x. (x, l.1)) (sym (roll-out-InfixTree l.0)) ∙ e' ∙ ap (λ x. (x, l'.1)) (roll-out-InfixTree l'.0)
 
 -- what goes on from whole links are links

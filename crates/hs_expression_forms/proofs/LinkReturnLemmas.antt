@@ -49,7 +49,8 @@ chain_pieces x = first_pieces (out-InfixTree x).first (out-InfixTree x).rest
 abbrev pub add : InfixTree → QOpTree → Bool → OperandTree → InfixTree
 add x op b e = make_infix (out-InfixTree x).first ((out-InfixTree x).rest ++ make_link op (make_signed b e) ∷ [])
 
-link_pieces : (op : QOpTree) (b : Bool) (e : OperandTree) →
+link_pieces : (op : QOpTree)
+    (b : Bool) (e : OperandTree) →
     pieces_of_link (make_link op (make_signed b e)) ≡ link_of op b e
 link_pieces op b e =
     ap (λ o. link_of o.op (negated_of o.operand) (operand_of o.operand))

@@ -2,7 +2,7 @@
 use Rattle.std.proofs.Common.{◌≡◌, ℕ, ◌+◌, Bool, true, false, List, [], ◌∷◌, ◌++◌, length, refl, sym}
 use Rattle.std.proofs.Common.{ap, ◌∙◌, subst, true≢false, arith}
 use Rattle.std.specs.Prelude.{map, not, ◌&&◌, Option, Some, None}
-use Rattle.std.proofs.lemmas.Bool.{and_from}
+use Rattle.std.proofs.lemmas.Bool.{and_from, not-true, not_from_false}
 use Rattle.hs_forms.specs.Reading.{begins}
 use Rattle.hs_forms.specs.Limits.{Within, lowered, all_of}
 use Rattle.hs_forms.specs.Productions.{Chain}
@@ -42,14 +42,6 @@ qop_operand _ h = absurd (true≢false (sym h))
 pub piece_starts : (p : Piece) → begins starts_qop (piece_tokens p) ≡ true
 piece_starts p = begins_append starts_qop (qop_tokens p.0) _ (qop_starts p.0)
 
-pub not_on : (b : Bool) → not b ≡ true → b ≡ false
-not_on true e = absurd (true≢false (sym e))
-not_on false e = refl
-
-pub not_off : (b : Bool) → b ≡ false → not b ≡ true
-not_off true e = absurd (true≢false e)
-not_off false e = refl
-
 -- no operator goes on what is not open
 pub shut_apart : (m : Maybe) (k : Terminal) → maybe_open m ≡ false → starts_qop k ≡ true → maybe_goes_on m k ≡ false
 shut_apart None k e h = qop_operand k h
@@ -58,16 +50,16 @@ shut_apart (Some x) k e h =
 
 pub front_at : (b : Bool) (ps : List Piece) (p : Piece) (p' : Piece) (more : List Piece) →
     shut_front b (map piece_open (ps ++ p ∷ p' ∷ more)) ≡ true → piece_open p ≡ false
-front_at b [] p p' more e = not_on (piece_open p) (and_left (not (piece_open p)) _ (and_right (not b) _ e))
+front_at b [] p p' more e = not-true (piece_open p) (and_left (not (piece_open p)) _ (and_right (not b) _ e))
 front_at b (z ∷ ps) p p' more e = front_at (piece_open z) ps p p' more (and_right (not b) _ e)
 
 pub front_first : (b : Bool) (p : Piece) (more : List Piece) → shut_front b (map piece_open (p ∷ more)) ≡ true →
     b ≡ false
-front_first b p more e = not_on b (and_left (not b) _ e)
+front_first b p more e = not-true b (and_left (not b) _ e)
 
 pub front_more : (h : Maybe) (ps : List Piece) (p : Piece) → shut_front (maybe_open h) (map piece_open ps) ≡ true →
     maybe_open (last_maybe h ps) ≡ false → shut_front (maybe_open h) (map piece_open (ps ++ p ∷ [])) ≡ true
-front_more h [] p e l = and_from (not (maybe_open h)) true (not_off (maybe_open h) l) refl
+front_more h [] p e l = and_from (not (maybe_open h)) true (not_from_false (maybe_open h) l) refl
 front_more h (z ∷ ps) p e l =
     and_from (not (maybe_open h)) _ (and_left (not (maybe_open h)) _ e)
     (front_more z.1 ps p (and_right (not (maybe_open h)) _ e) l)

@@ -1,6 +1,7 @@
 -- The tokens that begin expressions and their parts, and by which expressions go on.
 use Rattle.std.proofs.Common.{◌≡◌, Bool, true, false, [], ◌∷◌, refl, sym, true≢false}
 use Rattle.std.specs.Prelude.{◌&&◌, ◌||◌}
+use Rattle.std.proofs.lemmas.Bool.{or_from}
 use Rattle.hs_forms.specs.Reading.{begins}
 use Rattle.hs_forms.proofs.LimitLemmas.{or_left, or_right}
 use Rattle.hs_tokens.specs.Terminals.{is_arrow}
@@ -20,18 +21,14 @@ and_fewer true false x f h = refl
 and_fewer false true x f h = absurd (true≢false (sym (f refl)))
 and_fewer false false x f h = refl
 
-pub or_off : (a b : Bool) → a ≡ false → b ≡ false → a || b ≡ false
-or_off true b e f = e
-or_off false b e f = f
-
 pub goes_on_fewer : (o a r o' a' r' : Bool) (k : Terminal) → (o' ≡ true → o ≡ true) → (a' ≡ true → a ≡ true) →
     (r' ≡ true → r ≡ true) → goes_on o a r k ≡ false → goes_on o' a' r' k ≡ false
 goes_on_fewer o a r o' a' r' k fo fa fr e =
     let more = or_right (starts_aexp k) _ e in
     let last = or_right (o && starts_qop k) _ more in
-    or_off _ _ (or_left (starts_aexp k) _ e)
-    (or_off _ _ (and_fewer o o' (starts_qop k) fo (or_left (o && starts_qop k) _ more))
-    (or_off _ _ (and_fewer a a' (is_double_colon k) fa (or_left (a && is_double_colon k) _ last))
+    or_from _ _ (or_left (starts_aexp k) _ e)
+    (or_from _ _ (and_fewer o o' (starts_qop k) fo (or_left (o && starts_qop k) _ more))
+    (or_from _ _ (and_fewer a a' (is_double_colon k) fa (or_left (a && is_double_colon k) _ last))
     (and_fewer r r' (is_arrow k) fr (or_right (a && is_double_colon k) _ last))))
 
 -- an atype begins with a token that begins an aexp
@@ -45,7 +42,7 @@ atype_aexp _ h = refl
 pub type_quiet : (o a : Bool) (k : Terminal) → goes_on o a true k ≡ false → starts_atype k || is_arrow k ≡ false
 type_quiet o a k e =
     let more = or_right (starts_aexp k) _ e in
-    or_off _ _ (atype_aexp k (or_left (starts_aexp k) _ e))
+    or_from _ _ (atype_aexp k (or_left (starts_aexp k) _ e))
     (or_right (a && is_double_colon k) _ (or_right (o && starts_qop k) _ more))
 
 -- operators begin no operand, and are neither `::` nor `->`

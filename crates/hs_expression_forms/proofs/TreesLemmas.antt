@@ -18,7 +18,8 @@ use Rattle.hs_expression_forms.specs.Trees.{Trees, within, Took, Failed, behind_
 use Rattle.hs_expression_forms.specs.Trees.{Makes, Embeds}
 
 -- forms with the same tokens and continuations whose trees are the same
-pub reads_same : {K T : Type 0} (one two : Form K T) → ((x : T) → two.tokens x ≡ one.tokens x) →
+pub reads_same : {K T : Type 0}
+    (one two : Form K T) → ((x : T) → two.tokens x ≡ one.tokens x) →
     ((x : T) → one.Good x → two.Good x) → ((x : T) → two.Good x → one.Good x) →
     ((x : T) (k : K) → two.extends x k ≡ false → one.extends x k ≡ false) →
     (x : T) (rest : List K) → Reads one x rest → Reads two x rest
@@ -30,7 +31,8 @@ reads_same one two tokens there back extends x rest r = record {
       (ap (λ l. l ++ s) (sym (tokens x)) ∙ e ∙ ap (λ l. l ++ after) (tokens other));
 }
 
-pub refuses_same : {K T : Type 0} (one two : Form K T) → ((x : T) → two.tokens x ≡ one.tokens x) →
+pub refuses_same : {K T : Type 0}
+    (one two : Form K T) → ((x : T) → two.tokens x ≡ one.tokens x) →
     ((x : T) → one.Good x → two.Good x) → ((x : T) → two.Good x → one.Good x) →
     ((x : T) (k : K) → two.extends x k ≡ false → one.extends x k ≡ false) →
     (before bad : List K) → Refuses one before bad → Refuses two before bad

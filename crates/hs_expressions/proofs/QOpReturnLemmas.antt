@@ -60,10 +60,6 @@ not_quotable (t.QVar n) a b c = absurd (b n refl)
 not_quotable (t.Con n) a b c = absurd (c n refl)
 not_quotable _ a b c = refl
 
-pub empty_begins : (f : Terminal → Bool) (ts : Ts) → length ts ≡ 0 → begins f ts ≡ false
-empty_begins f [] e = refl
-empty_begins f (x ∷ ts) e = absurd (omega arith)
-
 module _ (limit : Option ℕ) where
   pub qop_none : (ts : Ts) → begins starts_qop ts ≡ false → Rejects (within qops limit) ts (length ts)
   qop_none ts ends = record {

@@ -33,7 +33,8 @@ head_none ts p =
     next (h.Named m) s after good quiet e = ap (begins is_module_word) e
     next (h.Exporting m y) s after good quiet e = ap (begins is_module_word) e
 
-pub head_no_name : (ts : Ts) → begins is_con ts ≡ false →
+pub head_no_name : (ts : Ts)
+    → begins is_con ts ≡ false →
     Rejects module_head_form (t.Word w.Module ∷ ts) (length ts)
 head_no_name ts p =
     stuck module_head_form is_con (t.Word w.Module ∷ ts) (t.Word w.Module ∷ []) ts (t.Con [] ∷ t.Word w.Where ∷ [])

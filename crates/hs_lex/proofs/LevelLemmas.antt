@@ -11,7 +11,7 @@ use Rattle.std.proofs.lemmas.Str.{is_utf8-from_IsUtf8, IsUtf8-from_is_utf8}
 use Rattle.hs_lex.specs.Literals.{more_by, item_len, string_len}
 
 -- the steps of a nested comment
-more_twice : (n m : ℕ) (o : Option ℕ) → more_by n (more_by m o) ≡ more_by (n + m) o
+pub more_twice : (n m : ℕ) (o : Option ℕ) → more_by n (more_by m o) ≡ more_by (n + m) o
 more_twice n m None = refl
 more_twice n m (Some l) = ap Some (omega arith)
 

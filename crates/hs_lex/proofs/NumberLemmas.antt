@@ -179,7 +179,7 @@ zero_octal b ys e h =
     (cond (is_octal_letter b) (run_as (is_in c.Octal) f.Octal ys) (decimal (b ∷ ys)))) e
     ∙ ap (λ v. cond v (run_as (is_in c.Octal) f.Octal ys) (decimal (b ∷ ys))) h
 
-zero_other : (b : ℕ) (ys : List ℕ) → is_hexadecimal_letter b ≡ false → is_octal_letter b ≡ false
+pub zero_other : (b : ℕ) (ys : List ℕ) → is_hexadecimal_letter b ≡ false → is_octal_letter b ≡ false
     → behind_zero (b ∷ ys) ≡ decimal (b ∷ ys)
 zero_other b ys e h =
     ap (λ v. cond v (run_as (is_in c.Hexadecimal) f.Hexadecimal ys)

@@ -136,7 +136,8 @@ alt_body-Arrow exp =
     from_layer extent_of_alt_body (v_alt_body.rolls-Arrow exp) (alt_body_folded extent_algebra (AltBody-F.Arrow exp))
     (given (extent_of_exp exp))
 
-pub alt_body-GuardedArrows : (first : GdaTree) (rest : List GdaTree)
+pub alt_body-GuardedArrows : (first : GdaTree)
+    (rest : List GdaTree)
     → measure_of_alt_body (v_alt_body.GuardedArrows first rest) ≡ beside (measure_of_gda first)
     (all_measured measure_of_gda rest)
 unfolding measure_of_alt_body measure_of_gda extent_algebra
@@ -276,7 +277,8 @@ operand-Case part =
     from_layer extent_of_operand (v_operand.rolls-Case part) (operand_folded extent_algebra (OperandTree-F.Case part))
     (node_is (extent_of_case part) (given (extent_of_case part)))
 
-pub operand-Apply : (first : AExpTree) (rest : List AExpTree)
+pub operand-Apply : (first : AExpTree)
+    (rest : List AExpTree)
     → measure_of_operand (v_operand.Apply first rest) ≡ node
     (beside (measure_of_aexp first) (all_measured measure_of_aexp rest))
 unfolding measure_of_aexp measure_of_operand extent_algebra
@@ -293,7 +295,8 @@ rhs_body-Equals exp =
     from_layer extent_of_rhs_body (v_rhs_body.rolls-Equals exp) (rhs_body_folded extent_algebra (RhsBody-F.Equals exp))
     (given (extent_of_exp exp))
 
-pub rhs_body-GuardedEquals : (first : GdTree) (rest : List GdTree)
+pub rhs_body-GuardedEquals : (first : GdTree)
+    (rest : List GdTree)
     → measure_of_rhs_body (v_rhs_body.GuardedEquals first rest) ≡ beside (measure_of_gd first)
     (all_measured measure_of_gd rest)
 unfolding measure_of_gd measure_of_rhs_body extent_algebra

@@ -54,6 +54,10 @@ name_first : (n : ℕ) (s : Ts) → begins starts_tuple_name ((replicate n t.Com
 name_first zero s = refl
 name_first (suc n) s = refl
 
+pub named_tokens : (n : ℕ) → gcon_tokens (named_con n) ≡ t.LeftParen ∷ (replicate n t.Comma ++ t.RightParen ∷ [])
+named_tokens zero = refl
+named_tokens (suc n) = refl
+
 module _ (limit : Option ℕ) where
   pub con_good : (c : GConTree) → is_gcon c ≡ true → (apat_form limit).Good (a.Con c)
   con_good c is = (con_is c ∙ is, subst (Within limit) (sym (con_deep c)) (within_zero limit))
@@ -398,10 +402,6 @@ module _ (limit : Option ℕ) where
   named_gcon : (n : ℕ) → n < 15 → is_gcon (named_con n) ≡ true
   named_gcon zero most = refl
   named_gcon (suc n) most = grind (arith, nat_tests)
-
-  named_tokens : (n : ℕ) → gcon_tokens (named_con n) ≡ t.LeftParen ∷ (replicate n t.Comma ++ t.RightParen ∷ [])
-  named_tokens zero = refl
-  named_tokens (suc n) = refl
 
   pub tuple_ok : (ts : Ts) (n : ℕ) (rest : Ts) (d : ℕ) → Accepts tuple_name_form (λ n. 0) ts n rest d →
       Accepts (apat_form limit) depth_of_apat (t.LeftParen ∷ ts) (a.Con (named_con n)) rest d

@@ -30,7 +30,8 @@ pub terms_of-Module : (u : OfUnit) (m : Text) → terms_of (Module u m) ≡ Modu
 unfolding hidden-the_row-Unit-0 hidden
 terms_of-Module u m = refl
 
-terms-row : (c : Text) (s : List (Unit {0})) (r : Row_of-Fill (list_count this s none_left))
+terms-row : (c : Text)
+    (s : List (Unit {0})) (r : Row_of-Fill (list_count this s none_left))
     → terms_of_row r ≡ terms_in_fills (out-Unit (Unit' c s r)).fills
 unfolding out-Unit out shown-the_row-Fill-1 shown
 terms-row c [] end_of-Fill = refl

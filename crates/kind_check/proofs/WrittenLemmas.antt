@@ -112,7 +112,8 @@ not_full_alone known es w b d h is f = true≢false (sym ((full_alone known es w
 
 -- ---- variables
 
-pub variables_app : (met : List Text) (f a : Written)
+pub variables_app : (met : List Text)
+    (f a : Written)
     → variables_after met (WApp f a) ≡ variables_after (variables_after met f) a
 unfolding hidden-the_row-Written-0 hidden
 variables_app met f a = refl
@@ -184,7 +185,8 @@ synonyms_here n rest tail e is same =
     ap (λ r. known_synonyms r n) is ∙ rw t refl
 
 -- a synonym's parameters are those that it was given with
-pub params_are : (found : Option Synonym) (s : Sense) (k : Kind) (p : ℕ) (b : Ty) → found ≡ sense_synonym s
+pub params_are : (found : Option Synonym)
+    (s : Sense) (k : Kind) (p : ℕ) (b : Ty) → found ≡ sense_synonym s
     → s ≡ SynonymOf k p b → HasParams found p
 params_are found s k p b e is = subst (λ x. HasParams x p) (sym (e ∙ ap sense_synonym is)) refl
 

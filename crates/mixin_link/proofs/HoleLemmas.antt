@@ -21,11 +21,7 @@ use Rattle.unit_identity.proofs.FillLemmas.{filled-Module}
 use Rattle.unit_identity.proofs.FilledLemmas.{HasFill}
 use Rattle.ident_table.specs.Parts.{terms_of, terms_below, terms_of_row}
 use Rattle.hole_unify.proofs.UnifyingLemmas.{Module-unit, component-filled, fills-filled}
-
--- what fills to a hole is a hole
-pub hole-filled : (i : Ident) (f : List Fill) (m : Text) → filled i f ≡ Hole m → (n : Text) × (i ≡ Hole n)
-hole-filled (Hole n) f m e = (n, refl)
-hole-filled (Module' s (more_of-Unit u end_of-Unit) k) f m e = cc
+use Rattle.hole_unify.proofs.CauseLemmas.{list-head, list-tail}
 
 -- what is found stands among the fills
 pub found-fill : (n : Text) (fs : List Fill) (i : Ident) → found n fs ≡ Some i
@@ -53,19 +49,13 @@ module _ (f : List Fill) where
     (λ k. k n (texts_same n)),
   )
 
-  head-same : (a b : Fill) (l k : List Fill) → a ∷ l ≡ b ∷ k → a ≡ b
-  head-same a b l k e = cc
-
-  tail-same : (a b : Fill) (l k : List Fill) → a ∷ l ≡ b ∷ k → l ≡ k
-  tail-same a b l k e = cc
-
   fills-kept : (gs : List Fill) → EachFill Both gs
       → (composed gs f ≡ gs → EachFill Keeps gs) × (EachFill Keeps gs → composed gs f ≡ gs)
   fills-kept [] both = ((λ e. tt), (λ k. refl))
   fills-kept (g ∷ gs) both = let rest = fills-kept gs both.1 in (
     (λ e. (
-      both.0.0 (ap (λ (x : Fill). x.ident) (head-same _ g (composed gs f) gs e)),
-      rest.0 (tail-same _ g (composed gs f) gs e),
+      both.0.0 (ap (λ (x : Fill). x.ident) (list-head e)),
+      rest.0 (list-tail e),
     )),
     (λ k j. record { hole = g.hole; ident = both.0.1 k.0 j } ∷ rest.1 k.1 j),
   )

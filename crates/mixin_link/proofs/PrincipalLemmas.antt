@@ -18,11 +18,13 @@ use Rattle.hole_unify.specs.declared.equation.IdentUnifyError.TheVariants.{Clash
 use Rattle.hole_unify.specs.Unifiers.{IsUnifier, HasUnifier}
 use Rattle.hole_unify.specs.Causes.{IsCause, FailsAt}
 use Rattle.hole_unify.specs.Table.{terms_in}
+use Rattle.hole_unify.proofs.AgreementLemmas.{hole-filled}
+use Rattle.hole_unify.proofs.CauseLemmas.{front-unifier}
 use Rattle.mixin_link.specs.declared.open.OpenInclude.{OpenInclude}
 use Rattle.mixin_link.specs.Linkings.{fills_under}
 use Rattle.mixin_link.specs.Equations.{equation, equations_of, fills_for, AreOpen}
 use Rattle.mixin_link.specs.Laws.{AnswersArePrincipal, PrincipalIsOne, CausesLeaveNone}
-use Rattle.mixin_link.proofs.HoleLemmas.{hole-filled, found-fill, kept-holes, holes-kept, holes-of-filled, hole-term}
+use Rattle.mixin_link.proofs.HoleLemmas.{found-fill, kept-holes, holes-kept, holes-of-filled, hole-term}
 use Rattle.mixin_link.proofs.HoleLemmas.{term-hole}
 use Rattle.mixin_link.proofs.EquationLemmas.{From, has-fills, at-for, equation-from, unifier-links, linking-unifies}
 
@@ -133,14 +135,10 @@ principal_is_one required is s t a b n r =
 
 -- ---- refusals leave none
 
-front-unifies : (xs ys : List Equation) (f : List Fill) → IsUnifier (xs ++ ys) f → IsUnifier xs f
-front-unifies [] ys f u = tt
-front-unifies (x ∷ xs) ys f u = (u.0, front-unifies xs ys f u.1)
-
 fails-all : (es front : List Equation) (label : Text) → FailsAt es front label → HasUnifier es → ⊥
 fails-all es front label x u = x.fails (
   u.0,
-  front-unifies front _ u.0
+  front-unifier front _ u.0
       (subst (λ (l : List Equation). IsUnifier l u.0) x.split.4 u.1),
 )
 

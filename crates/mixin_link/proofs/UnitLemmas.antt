@@ -207,7 +207,8 @@ equation-units ss ms required u a = unit-side (IsShown ss) (equations_of require
     (equations-shown ss ms required) u a
 
 -- the equations of lawful summaries meet the condition of unification
-pub equations-lawful : (ss : List Summary) (ms : List Mixin) (required : List Text) → AreLawful ss
+pub equations-lawful : (ss : List Summary)
+    (ms : List Mixin) (required : List Text) → AreLawful ss
     → IsLawful (equations_of required (map (open_in ss) ms))
 equations-lawful ss ms required l = record {
   same_holes = λ u v a b e. let p = shown u a in let q = shown v b in

@@ -20,6 +20,7 @@ use Rattle.hs_core.specs.Expansion.Expands.{variable, name, application, body_fo
 use Rattle.hs_core.specs.Expansion.ExpandEach.{none, each}
 use Rattle.hs_core.specs.Sameness.{same_original}
 use Rattle.hs_core.proofs.SamenessLemmas.{original_same}
+use Rattle.hs_core.proofs.ExpansionLemmas.{drop_at, drop_count, among_others, apply_each, applied_append}
 use Rattle.kind_check.specs.declared.scope.Known.{Known}
 use Rattle.kind_check.specs.declared.scope.Sense.{Sense}
 use Rattle.kind_check.specs.declared.scope.Sense.TheVariants.{SynonymOf}
@@ -60,25 +61,6 @@ can_arg S f a given fuel c = record {
   covers = λ n m q. c.covers n (met_arg S f a n m) q;
 }
 
--- a list without one of its items
-abbrev without : (n : OrigName) (ns : List OrigName) → Among n ns → List OrigName
-without n [] h = absurd h
-without n (m ∷ ms) (inl p) = ms
-without n (m ∷ ms) (inr h) = m ∷ without n ms h
-
-without-count : (n : OrigName) (ns : List OrigName) (h : Among n ns) → count ns ≡ suc (count (without n ns h))
-without-count n [] h = absurd h
-without-count n (m ∷ ms) (inl p) = refl
-without-count n (m ∷ ms) (inr h) = ap suc (without-count n ms h)
-
-among-without : (m n : OrigName) (ns : List OrigName) (h : Among n ns) → Among m ns → (n ≡ m → ⊥)
-    → Among m (without n ns h)
-among-without m n [] h k other = absurd h
-among-without m n (x ∷ xs) (inl p) (inl q) other = absurd (other (sym p ∙ q))
-among-without m n (x ∷ xs) (inl p) (inr k) other = k
-among-without m n (x ∷ xs) (inr h) (inl q) other = inl q
-among-without m n (x ∷ xs) (inr h) (inr k) other = inr (among-without m n xs h k other)
-
 leads_from : (S : Synonyms) (n m : OrigName) (s : Synonym) → S n ≡ Some s → IsMet S s.body m → LeadsTo S n m
 leads_from S n m s q (inl k) = at_once n m s q k
 leads_from S n m s q (inr (l, k, x)) = through n l m (at_once n l s q k) x
@@ -88,16 +70,16 @@ pub can_body : (S : Synonyms) (n : OrigName) (s : Synonym) (given fuel : ℕ) �
     → CanExpand S (con n) given fuel → CanExpand S s.body 0 (fuel - 1)
 can_body S n s given fuel q c =
     let h = c.covers n (inl refl) (ap is_some q) in
-    let e = without-count n c.names h in
+    let e = drop_count n c.names h in
     let l = c.few in
     record {
       full = c.bodies n s (inl refl) q;
       bodies = λ m r k w. c.bodies m r (inr (n, refl, leads_from S n m s q k)) w;
       acyclic = λ m k. c.acyclic m (inr (n, refl, leads_from S n m s q k));
-      names = without n c.names h;
+      names = drop_at n c.names h;
       few = omega (arith, e, l);
       covers = λ i met some.
-          among-without i n c.names h (c.covers i (inr (n, refl, leads_from S n i s q met)) some)
+          among_others i n c.names h (c.covers i (inr (n, refl, leads_from S n i s q met)) some)
           (λ p. c.acyclic n (inl refl) (subst (LeadsTo S n) (sym p) (leads_from S n i s q met)));
     }
 
@@ -105,16 +87,11 @@ pub some_fuel : (S : Synonyms) (n : OrigName) (s : Synonym) (given fuel : ℕ) �
     → CanExpand S (con n) given fuel → 1 ≤ fuel
 some_fuel S n s given fuel q c =
     let h = c.covers n (inl refl) (ap is_some q) in
-    let e = without-count n c.names h in
+    let e = drop_count n c.names h in
     let l = c.few in
     omega (arith, e, l)
 
 -- ---- each case
-
-apply_each : (S : Synonyms) (t u : TypeTerm) (ts us : List TypeTerm) → Expands S t u → ExpandEach S ts us
-    → Expands S (applied_to t ts) (applied_to u us)
-apply_each S t u _ _ h none = h
-apply_each S t u _ _ h (each a b ts us x y) = apply_each S (app t a) (app u b) ts us (application t a u b h x) y
 
 for_app : (S : Synonyms) (f a v w : TypeTerm) (us : List TypeTerm) → Expands S a v → ExpandsFor S f (v ∷ us) w
     → ExpandsFor S (app f a) us w
@@ -135,10 +112,6 @@ parted S (suc p) _ _ none l = absurd (never l)
 parted S (suc p) _ _ (each t u ts us x y) l =
     let h = parted S p ts us y (Prim.omega arith) in
     record { many = ap suc h.many; front = each t u (take p ts) (take p us) x h.front; rest = h.rest }
-
-applied_append : (t : TypeTerm) (ts us : List TypeTerm) → applied_to t (ts ++ us) ≡ applied_to (applied_to t ts) us
-applied_append t [] us = refl
-applied_append t (a ∷ ts) us = applied_append (app t a) ts us
 
 for_synonym : (S : Synonyms) (n : OrigName) (s : Synonym) (us : List TypeTerm) (w : TypeTerm) → S n ≡ Some s
     → s.params ≤ count us → Expands S s.body w

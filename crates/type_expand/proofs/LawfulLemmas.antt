@@ -10,7 +10,7 @@ use Rattle.bp_base.specs.declared.ty.Ty.{Ty}
 use Rattle.hs_core.specs.Types.{TypeTerm, type_term}
 use Rattle.hs_core.specs.Expansion.{Synonym, Synonyms, Expands, IsMet, LeadsTo, IsExpandable, AreLawful}
 use Rattle.hs_core.specs.Expansion.LeadsTo.{at_once, through}
-use Rattle.hs_core.proofs.ExpansionLemmas.{starts, expandable_from}
+use Rattle.hs_core.proofs.ExpansionLemmas.{starts, expandable_from, some_of}
 use Rattle.std.proofs.lemmas.List.{take_more}
 use Rattle.kind_check.proofs.LoopLemmas.{take_end}
 use Rattle.kind_check.specs.declared.scope.Known.{Known}
@@ -49,17 +49,14 @@ lawful_from S es h = record {
   applied_fully = λ n s a q. (lawful_among S es n h a s q).applied_fully;
 }
 
-some_is : (S : Synonyms) (n : OrigName) (s : Synonym) → S n ≡ Some s → IsSome (S n)
-some_is S n s q = ap is_some q
-
 pub lawful_to : (es : List Known) (n : OrigName) → AreLawful (known_synonyms es) (names_of es)
     → IsLawfulName (known_synonyms es) n
 lawful_to es n h s q = record {
-  applied_fully = h.applied_fully n s (synonyms_named es n (some_is (known_synonyms es) n s q)) q;
-  bodies = λ m r met w. h.applied_fully m r (synonyms_named es m (some_is (known_synonyms es) m r w)) w;
+  applied_fully = h.applied_fully n s (synonyms_named es n (some_of (known_synonyms es) n s q)) q;
+  bodies = λ m r met w. h.applied_fully m r (synonyms_named es m (some_of (known_synonyms es) m r w)) w;
   acyclic = λ m met l.
       let z = starts (known_synonyms es) m m l in
-      h.acyclic m (synonyms_named es m (some_is (known_synonyms es) m z.0 z.1)) l;
+      h.acyclic m (synonyms_named es m (some_of (known_synonyms es) m z.0 z.1)) l;
 }
 
 -- ---- one name

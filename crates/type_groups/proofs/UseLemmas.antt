@@ -6,7 +6,7 @@ use Rattle.std.proofs.Common.{true≢false}
 use Rattle.std.proofs.Common.{◌⊎◌, eqb-true, eq-eqb}
 use Rattle.std.specs.Prelude.{map, flat_map, filter, Some, None, slice_get, option_to_list}
 use Rattle.std.specs.List.{list_any}
-use Rattle.std.proofs.lemmas.List.{append-nil, append_assoc}
+use Rattle.std.proofs.lemmas.List.{append-nil, append_assoc, length-map}
 use Rattle.std.proofs.lemmas.Grind.{flat_map-append}
 use Rattle.bp_base.specs.Lists.{Among}
 use Rattle.bp_base.specs.Texts.{Text}
@@ -303,11 +303,7 @@ in_uses all (d ∷ ds) zero w h =
 in_uses all (d ∷ ds) (suc v) w h = in_uses all ds v w h
 
 pub uses_in_range : (ds : List TypeDecl) → InRange (type_uses ds)
-uses_in_range ds v w h = subst (λ n. w < n) (sym (length-map _ ds)) (in_uses ds ds v w h)
-  where
-    length-map : {A B : Type 0} (f : A → B) (xs : List A) → length (map f xs) ≡ length xs
-    length-map f [] = refl
-    length-map f (x ∷ xs) = ap suc (length-map f xs)
+uses_in_range ds v w h = subst (λ n. w < n) (sym (length-map ds _)) (in_uses ds ds v w h)
 
 -- ---- the declarations of a group
 

@@ -76,7 +76,8 @@ Unseen-app f m x i g a old new e s lg la =
       within = λ h. subst (Below m) (sym two) (Below-push m (old ++ a ∷ []) g (Below-push m old a h la) lg);
     }
   where
-    apart : (b c d : Bool) → (b || (c || d)) ≡ ((b || c) || d)
+    apart : (b c d : Bool)
+        → (b || (c || d)) ≡ ((b || c) || d)
     apart true c d = refl
     apart false c d = refl
 

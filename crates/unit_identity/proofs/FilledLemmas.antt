@@ -45,7 +45,8 @@ module _ (fs : List Fill) where
     (λ each. each n (texts_same n)),
   )
 
-  parts : (gs : List Fill) → EachFill Both gs
+  parts : (gs : List Fill)
+      → EachFill Both gs
       → (EachFill (λ i. IsFilled i fs) gs → EachFill (EachHole (HasFill fs)) gs)
       × (EachFill (EachHole (HasFill fs)) gs → EachFill (λ i. IsFilled i fs) gs)
   parts [] both = ((λ h. tt), (λ h. tt))
@@ -54,7 +55,8 @@ module _ (fs : List Fill) where
     (λ h. (both.0.1 h.0, rest.1 h.1)),
   )
 
-  at-module : (u : OfUnit) (m : Text) → EachFill Both (out-Unit u).fills → Both (Module u m)
+  at-module : (u : OfUnit)
+      (m : Text) → EachFill Both (out-Unit u).fills → Both (Module u m)
   at-module u m both = let rest = parts (out-Unit u).fills both in (
     (λ h. fills-EachHole (HasFill fs) u m (rest.0 (module-each u m h))),
     (λ h. each-module u m (rest.1 (EachHole-fills (HasFill fs) u m h))),

@@ -27,7 +27,8 @@ unfolding out-Unit out shown-the_row-Fill-1 shown
 pieces-list c [] end_of-Fill mark = refl
 pieces-list c (x ∷ s) (more_of-Fill h i r) mark = ap (λ l. mark ∷ (h ++ 61 ∷ (text i ++ l))) (pieces-list c s r 44)
 
-closing-list : (c : List ℕ) (s : List (Unit {0})) (r : Row_of-Fill (list_count this s none_left))
+closing-list : (c : List ℕ)
+    (s : List (Unit {0})) (r : Row_of-Fill (list_count this s none_left))
     → closing r ≡ closing_of (out-Unit (Unit' c s r)).fills
 unfolding out-Unit out shown-the_row-Fill-1 shown
 closing-list c [] end_of-Fill = refl

@@ -15,14 +15,16 @@ pub well_formed-Module : (u : OfUnit) (m : Text) → well_formed (Module u m) �
 unfolding hidden-the_row-Unit-0 hidden
 well_formed-Module u m = refl
 
-well_formed-row : (c : Text) (s : List (Unit {0})) (r : Row_of-Fill (list_count this s none_left))
+well_formed-row : (c : Text)
+    (s : List (Unit {0})) (r : Row_of-Fill (list_count this s none_left))
     → well_formed_row r ≡ well_formed_fills (out-Unit (Unit' c s r)).fills
 unfolding out-Unit out shown-the_row-Fill-1 shown
 well_formed-row c [] end_of-Fill = refl
 well_formed-row c (x ∷ s) (more_of-Fill h i r) = ap (λ b. is_module_name h && well_formed i && b)
     (well_formed-row c s r)
 
-holes-row : (c : Text) (s : List (Unit {0})) (r : Row_of-Fill (list_count this s none_left))
+holes-row : (c : Text)
+    (s : List (Unit {0})) (r : Row_of-Fill (list_count this s none_left))
     → row_holes r ≡ holes_of (out-Unit (Unit' c s r)).fills
 unfolding out-Unit out shown-the_row-Fill-1 shown
 holes-row c [] end_of-Fill = refl

@@ -5,7 +5,8 @@ use Rattle.hs_forms.specs.Answers.{Rejects}
 use Rattle.hs_readers.specs.Answers.{Answers}
 use Rattle.hs_expression_forms.specs.Trees.{within, sort_of}
 use Rattle.hs_expression_forms.specs.Expressions.{qops, starts_qop}
-use Rattle.hs_expressions.proofs.QOpReturnLemmas.{qop_none, no_qop, empty_begins}
+use Rattle.hs_trees.proofs.PatternReturnLemmas.{empty_begins}
+use Rattle.hs_expressions.proofs.QOpReturnLemmas.{qop_none, no_qop}
 use Rattle.hs_expressions.proofs.qop.read_qop.Goals as goal
 
 pub returns-in_default : goal.returns-in_default

@@ -5,7 +5,8 @@ use Rattle.hs_forms.specs.Answers.{Rejects}
 use Rattle.hs_tokens.specs.declared.terminal.Terminal.TheVariants.{Backquote}
 use Rattle.hs_expression_forms.specs.Trees.{within}
 use Rattle.hs_expression_forms.specs.Expressions.{qops}
-use Rattle.hs_expressions.proofs.QOpReturnLemmas.{quoted_none, quoted_open, not_quotable, empty_begins}
+use Rattle.hs_trees.proofs.PatternReturnLemmas.{empty_begins}
+use Rattle.hs_expressions.proofs.QOpReturnLemmas.{quoted_none, quoted_open, not_quotable}
 use Rattle.hs_expressions.specs.Leaves.{is_quotable}
 use Rattle.hs_expressions.proofs.qop.read_quoted.Goals as goal
 
