@@ -467,11 +467,11 @@ choices_written sign (c ∷ l) =
 some_decls : (d : Decl) (l : List Decl) → (length (d ∷ l) == 0) ≡ false
 some_decls d l = grind (arith, nat_tests)
 
-where_by : (l : List Decl) → written (where_marks (map decl_marks l))
+locals_text : (l : List Decl) → written (where_marks (map decl_marks l))
     ≡ decls_text (codes " where {") (codes "; ") l ++ brace_text (not (length l == 0))
 unfolding decls_text written
-where_by [] = refl
-where_by (d ∷ l) =
+locals_text [] = refl
+locals_text (d ∷ l) =
     behind_text where_words (led [] (Mark.word t.Semicolon ∷ space ∷ []) (map decl_marks (d ∷ l)) ++ end_words)
     (codes " where {") where_is
     ∙ ap (λ v. codes " where {" ++ v)
@@ -493,7 +493,7 @@ text_rhs sign r =
     ∙ ap written (rhs_roll sign (out-Rhs r).choices (out-Rhs r).local)
     ∙ written_append (flat_map (guarded_marks sign) (out-Rhs r).choices)
     (where_marks (map decl_marks (out-Rhs r).local))
-    ∙ (λ i. choices_written sign (out-Rhs r).choices i ++ where_by (out-Rhs r).local i)
+    ∙ (λ i. choices_written sign (out-Rhs r).choices i ++ locals_text (out-Rhs r).local i)
 
 pub text_choice : (sign : Sign) (c : Choice) → written (guarded_marks sign c)
     ≡ guards_text c.guards ++ (sign_text sign ++ exp_text p.Whole c.exp)

@@ -24,12 +24,6 @@ use Rattle.hs_headers.proofs.TurnLemmas.{Turn, turn_ok, turn_fails, stuck}
 use Rattle.hs_declarations.specs.Declarations.{is_equals, is_type_word, synonym_form}
 use Rattle.hs_declarations.specs.declared.synonyms.Synonym.{Synonym}
 
--- one more variable
-pub params_more : (names : List (List ℕ)) (name : List ℕ) (next : Ts) →
-    map t.Var (names ++ name ∷ []) ++ next ≡ map t.Var names ++ t.Var name ∷ next
-params_more [] name next = refl
-params_more (n ∷ names) name next = ap (λ l. t.Var n ∷ l) (params_more names name next)
-
 abbrev pub synonym : List ℕ → List (List ℕ) → TypeTree → Synonym
 synonym name params ty = record { name = name; params = params; ty = ty }
 

@@ -238,10 +238,6 @@ pub stuck : (outer : Option Fixity) (ps : List Piece) (t : Tree) (rest : List Pi
 stuck outer ps t rest g a b u after r f st e = let m =
     g.only u after r f st e in stuck_of outer t rest u after m.0 a b st m.2
 
-pub stop_empty : (outer : Option Fixity) (ps : List Piece) (t : Tree) (rest : List Piece) → Going outer ps t rest
-    → rest ≡ [] → Reads outer ps t rest
-stop_empty outer ps t rest g e = stop outer ps t rest g (subst (Stops outer) (sym e) tt)
-
 pub is_empty : (xs : List Piece) → true ≡ (length xs == 0) → xs ≡ []
 is_empty [] e = refl
 is_empty (x ∷ xs) e = absurd (grind (arith, nat_tests))

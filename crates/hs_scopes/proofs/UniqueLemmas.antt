@@ -58,10 +58,6 @@ left_chain ps o t h = record {
   respects = (h 0).respects.0;
 }
 
-pub left_none : (ps : List Piece) (o : Operator) (t : Tree) → IsReading ps t → (FitsLeft t o.fixity → ⊥) → (u : Tree)
-    → IsLeftSection ps o u → ⊥
-left_none ps o t h f u k = f (subst (λ v. FitsLeft v o.fixity) (one ps t u h (left_chain ps o u k)) (k 0).respects.1)
-
 pub right_ok : (o : Operator) (ps : List Piece) (t : Tree) → IsReading ps t → FitsRight (Some o.fixity) t
     → IsRightSection o ps t
 right_ok o ps t h f z = record {
@@ -72,7 +68,3 @@ right_ok o ps t h f z = record {
 
 pub right_chain : (o : Operator) (ps : List Piece) (t : Tree) → IsRightSection o ps t → IsReading ps t
 right_chain o ps t h = record { spells = let q = (h 0).spells in cc; respects = (h 0).respects.2 }
-
-pub right_none : (o : Operator) (ps : List Piece) (t : Tree) → IsReading ps t → (FitsRight (Some o.fixity) t → ⊥) →
-    (u : Tree) → IsRightSection o ps u → ⊥
-right_none o ps t h f u k = f (subst (FitsRight (Some o.fixity)) (one ps t u h (right_chain o ps u k)) (k 0).respects.3)

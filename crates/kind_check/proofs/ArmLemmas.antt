@@ -74,14 +74,6 @@ name_none known ds ps first ty x old s k is v e =
     (sym (ap (written_term ps) is))
     (leaf_none _ old s k (λ g h. (v.each g (value g k)).0 h) e)
 
-pub name_unknown : (known : List Known) (ds : List GroupDecl) (ps : List Text) (first : ℕ) (ty : Written)
-    (x : OrigName) (old : List Bound) (k : Plain) → ty ≡ WCon x
-    → HasNoForm known ds x → NoGuess (fits_under known ds ps first ty k) old
-name_unknown known ds ps first ty x old k is v =
-    subst (λ t. NoGuess (fits (names_under known ds) (variables_under first (count ps)) t k) old)
-    (sym (ap (written_term ps) is))
-    (λ g m h. v g (value g k) h)
-
 -- what the walk knows before an application
 pub record Ready (known : List Known) (ds : List GroupDecl) (ps : List Text) (first n : ℕ) (old : List Bound)
     (k : Plain) : Type 0 where

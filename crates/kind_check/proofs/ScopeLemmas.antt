@@ -160,12 +160,6 @@ stands_below [] n i s = absurd s
 stands_below (d ∷ ds) n zero s = omega arith
 stands_below (d ∷ ds) n (suc i) s = let l = stands_below ds n i s.1 in omega (arith, l)
 
-pub known_here : (known : List Known) (n : OrigName) (rest tail : List Known) (e : Known) → rest ≡ e ∷ tail
-    → e.name ≡ n → ((k : KindTerm) → known_names known n k ↔ known_names rest n k) → (k : KindTerm)
-    → known_names known n k ↔ (sense_kind e.sense ≡ Some k)
-known_here known n rest tail e is same h k = (
-  λ p. elim (subst (λ r. known_names r n k) is ((h k).0 p)) [ inl q ↦ q.1 | inr q ↦ absurd (q.0 same) ],
-  λ q. (h k).1 (subst (λ r. known_names r n k) (sym is) (inl (same, q))),
 )
 
 pub some_same : (j k : KindTerm) → Some j ≡ Some k → j ≡ k
@@ -175,32 +169,4 @@ some_same j k e = ap inner e
     inner (Some i) = i
     inner None = star
 
--- the first entry of the name has this kind, and so has the name
-pub known_some : (known : List Known) (n : OrigName) (rest tail : List Known) (e : Known) (k : KindTerm)
-    → rest ≡ e ∷ tail → e.name ≡ n → ((j : KindTerm) → known_names known n j ↔ known_names rest n j)
-    → sense_kind e.sense ≡ Some k → IsKnown known n k
-known_some known n rest tail e k is same h s j =
-    let p = known_here known n rest tail e is same h j in
-    (λ q. some_same k j (sym s ∙ p.0 q), λ q. p.1 (s ∙ ap Some q))
-
--- the first entry of the name has no kind, and so the name has none
-pub known_none : (known : List Known) (n : OrigName) (rest tail : List Known) (e : Known) → rest ≡ e ∷ tail
-    → e.name ≡ n → ((j : KindTerm) → known_names known n j ↔ known_names rest n j)
-    → sense_kind e.sense ≡ None → IsUnknown known n
-known_none known n rest tail e is same h s j q =
-    Some≢None j (sym ((known_here known n rest tail e is same h j).0 q) ∙ s)
-  where
-    told : Option KindTerm → Type 0
-    told (Some k) = Unit {0}
-    told None = ⊥
-
-    Some≢None : (k : KindTerm) → Some k ≡ None → ⊥
-    Some≢None k e = subst told e tt
-
-pub known_more : (known : List Known) (n : OrigName) (rest tail : List Known) (e : Known) → rest ≡ e ∷ tail
-    → (e.name ≡ n → ⊥) → ((k : KindTerm) → known_names known n k ↔ known_names rest n k) → (k : KindTerm)
-    → known_names known n k ↔ known_names tail n k
-known_more known n rest tail e is other h k = (
-  λ p. elim (subst (λ r. known_names r n k) is ((h k).0 p)) [ inl q ↦ absurd (other q.0) | inr q ↦ q.1 ],
-  λ q. (h k).1 (subst (λ r. known_names r n k) (sym is) (inr (other, q))),
 )

@@ -17,41 +17,6 @@ use Rattle.kind_check.specs.Stacks.{stacked, joined_kinds, joined_back, kinds_af
 pub stacked-push : (ks : List Kind) (k : Kind) → stacked (ks ++ k ∷ []) ≡ kind_term k ∷ stacked ks
 stacked-push ks k = ap (map kind_term) (reverse-append ks (k ∷ []))
 
--- the two on top are taken off, and the arrow from the second to the first is put there
-pub joined-two : (old one two new : List Kind) (to from k : Kind) → old ≡ one ++ to ∷ [] → one ≡ two ++ from ∷ []
-    → new ≡ two ++ k ∷ [] → kind_term k ≡ arrow (kind_term from) (kind_term to)
-    → stacked new ≡ joined_kinds (stacked old)
-joined-two old one two new to from k a b c e =
-    ap stacked c ∙ stacked-push two k ∙ ap (λ x. x ∷ stacked two) e
-    ∙ sym (ap joined_kinds
-    (ap stacked a ∙ stacked-push one to ∙ ap (λ xs. kind_term to ∷ xs) (ap stacked b ∙ stacked-push two from)))
-
-pub joined-one : (old one two new : List Kind) (to : Kind) → old ≡ one ++ to ∷ [] → one ≡ [] → two ≡ []
-    → new ≡ two ++ to ∷ [] → stacked new ≡ joined_kinds (stacked old)
-joined-one old one two new to a b d c =
-    ap stacked c ∙ ap (λ xs. stacked (xs ++ to ∷ [])) d
-    ∙ sym (ap joined_kinds (ap stacked a ∙ ap (λ xs. stacked (xs ++ to ∷ [])) b))
-
-pub joined-none : (old new : List Kind) → old ≡ [] → new ≡ [] → stacked new ≡ joined_kinds (stacked old)
-joined-none old new a b = ap stacked b ∙ sym (ap (λ xs. joined_kinds (stacked xs)) a)
-
-pub joined_back-two : (old one two new : List Kind) (from to k : Kind) → old ≡ one ++ from ∷ []
-    → one ≡ two ++ to ∷ [] → new ≡ two ++ k ∷ [] → kind_term k ≡ arrow (kind_term from) (kind_term to)
-    → stacked new ≡ joined_back (stacked old)
-joined_back-two old one two new from to k a b c e =
-    ap stacked c ∙ stacked-push two k ∙ ap (λ x. x ∷ stacked two) e
-    ∙ sym (ap joined_back
-    (ap stacked a ∙ stacked-push one from ∙ ap (λ xs. kind_term from ∷ xs) (ap stacked b ∙ stacked-push two to)))
-
-pub joined_back-one : (old one two new : List Kind) (from : Kind) → old ≡ one ++ from ∷ [] → one ≡ [] → two ≡ []
-    → new ≡ two ++ from ∷ [] → stacked new ≡ joined_back (stacked old)
-joined_back-one old one two new from a b d c =
-    ap stacked c ∙ ap (λ xs. stacked (xs ++ from ∷ [])) d
-    ∙ sym (ap joined_back (ap stacked a ∙ ap (λ xs. stacked (xs ++ from ∷ [])) b))
-
-pub joined_back-none : (old new : List Kind) → old ≡ [] → new ≡ [] → stacked new ≡ joined_back (stacked old)
-joined_back-none old new a b = ap stacked b ∙ sym (ap (λ xs. joined_back (stacked xs)) a)
-
 -- ---- what the nodes of a type spell
 
 decided-joined : (ts : List Plain) → map decided (joined ts) ≡ joined_kinds (map decided ts)
@@ -79,12 +44,6 @@ decided-read ts (n ∷ ns) =
 -- all nodes of a type spell its kind
 pub read_kind : (ns : List Node) (t : Plain) → AreNodesOf ns t → kinds_read [] ns ≡ decided t ∷ []
 read_kind ns t e = sym (decided-read [] ns) ∙ ap (map decided) (e [])
-
--- one node of those that are left
-pub node_read : (ks js : List KindTerm) (ns rest : List Node) (n : Node) (all : List KindTerm) → ns ≡ n ∷ rest
-    → js ≡ kinds_after n ks → kinds_read ks ns ≡ all → kinds_read js rest ≡ all
-node_read ks js ns rest n all e f h =
-    ap (λ x. kinds_read x rest) f ∙ sym (ap (kinds_read ks) e) ∙ h
 
 -- after all nodes the stack is that of the type's kind
 pub all_read : (kinds : List Kind) (i : ℕ) (ns : List Node) (t : Plain) → i ≡ length ns

@@ -22,9 +22,6 @@ below-of-test i n h = ltb-true i n h
 pub Agree-trans : (n : ℕ) (f g h : Guess) → Agree n f g → Agree n g h → Agree n f h
 Agree-trans n f g h p q i l = p i l ∙ q i l
 
-pub Agree-sym : (n : ℕ) (g h : Guess) → Agree n g h → Agree n h g
-Agree-sym n g h p i l = sym (p i l)
-
 pub Agree-less : (m n : ℕ) (g h : Guess) → m ≤ n → Agree n g h → Agree m g h
 Agree-less m n g h l p i b = p i (omega (arith, l, b))
 
@@ -91,11 +88,6 @@ HasKind-map N M f g (con m) k p q h = p m k h
 HasKind-map N M f g (app a b) k p q h =
     (h.0, HasKind-map N M f g a (arrow h.0 k) p q h.1, HasKind-map N M f g b h.0 p q h.2)
 
-pub Local-more : (names : Guess → NameKinds) (vars : Guess → ℕ → KindTerm) (m n : ℕ) → m ≤ n → Local names vars m
-    → Local names vars n
-Local-more names vars m n l h = record {
-  named = λ f g a. h.named f g (Agree-less m n f g l a);
-  ranged = λ f g a. h.ranged f g (Agree-less m n f g l a);
 }
 
 -- a guess that agrees gives the type the same kind

@@ -189,31 +189,3 @@ pub params_are : (found : Option Synonym)
     (s : Sense) (k : Kind) (p : ℕ) (b : Ty) → found ≡ sense_synonym s
     → s ≡ SynonymOf k p b → HasParams found p
 params_are found s k p b e is = subst (λ x. HasParams x p) (sym (e ∙ ap sense_synonym is)) refl
-
--- a synonym is fully applied where it is applied to no fewer types than it has parameters
-pub full_name : (S : Synonyms) (n : OrigName) (p given : ℕ) → HasParams (S n) p
-    → IsTrue (nat_le p given) ↔ ((s : Synonym) → S n ≡ Some s → s.params ≤ given)
-full_name S n p given h = go (S n) refl h
-  where
-    inner : Synonym → Option Synonym → Synonym
-    inner d (Some s) = s
-    inner d None = d
-
-    go : (o : Option Synonym) → S n ≡ o → HasParams o p
-        → IsTrue (nat_le p given) ↔ ((s : Synonym) → S n ≡ Some s → s.params ≤ given)
-    go None e x = absurd x
-    go (Some t) e x = (
-      λ l s f.
-          let same : t ≡ s = ap (inner t) (sym e ∙ f) in
-          subst (λ m. m ≤ given) (sym x ∙ ap (λ y. y.params) same) (leb-true p given l),
-      λ f. le-leb p given (subst (λ m. m ≤ given) x (f t e)),
-    )
-
--- what is no synonym is fully applied
-pub no_synonym_full : (S : Synonyms) (n : OrigName) (given : ℕ) → S n ≡ None
-    → (s : Synonym) → S n ≡ Some s → s.params ≤ given
-no_synonym_full S n given e s f = absurd (subst told (sym f ∙ e) tt)
-  where
-    told : Option Synonym → Type 0
-    told (Some k) = Unit {0}
-    told None = ⊥

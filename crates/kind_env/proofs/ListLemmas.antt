@@ -54,12 +54,6 @@ adds_both xs ys old mid new p q = record {
   listed = AreListed-append xs ys p.more q.more p.listed q.listed;
 }
 
-pub adds_one : (x : Named) (e : Known) (old new : List Known) → new ≡ old ++ e ∷ [] → e.name ≡ x.name
-    → sense_kind e.sense ≡ kind_in (Some x.means) → sense_synonym e.sense ≡ synonym_in (Some x.means)
-    → Adds (x ∷ []) old new
-adds_one x e old new b n k s =
-    record { more = e ∷ []; behind = b; listed = (record { named = n; kind = k; synonym = s }, refl) }
-
 pub adds_same : (xs ys : List Named) (old new : List Known) → xs ≡ ys → Adds xs old new → Adds ys old new
 adds_same xs ys old new e h = subst (λ z. Adds z old new) e h
 

@@ -88,12 +88,6 @@ named-next ds ks i old new e d d' k k' l b h n p q x y =
     (IsNamed-push (take i ds) (take i ks) old (get_or ds i d') (get_or ks i k') e (length-take_both ks ds i l) h
     (x ∙ ap (λ z. z.name) p) (y ∙ ap (λ z. Some (kind_term z)) q))))
 
-pub named-all : (ds : List GroupDecl) (ks : List Kind) (i : ℕ) (es : List Known) → i ≡ length ds
-    → length ks ≡ length ds → IsNamed (take i ds) (take i ks) es → IsNamed ds ks es
-named-all ds ks i es e l h =
-    subst (λ z. IsNamed z ks es) (take_end ds i e)
-    (subst (λ z. IsNamed (take i ds) z es) (take_end ks i (e ∙ sym l)) h)
-
 pub front_is : (ds ds' : List GroupDecl) (ks ks' : List Kind) (es outer new : List Known) → ds ≡ ds' → ks ≡ ks'
     → new ≡ es ++ outer → IsNamed ds ks es → (n : OrigName) (k : KindTerm)
     → known_names new n k ↔ within_group (known_names outer) (decls_of ds') (map kind_term ks') n k
@@ -157,9 +151,6 @@ pub record Gone (N : NameKinds) (gs : List TypeGroup) (kss : List GroupKinds) (e
   pub kinded : Kinded N gs kss
   pub names : (n : OrigName) (k : KindTerm) → known_names env.names n k ↔ grown N gs kss n k
 
-pub gone-none : (env : KindEnv) (kss : List GroupKinds) → kss ≡ [] → Gone (known_names env.names) [] kss env
-gone-none env kss e = record { kinded = e; names = λ n k. (λ h. h, λ h. h) }
-
 kinded-push : (N : NameKinds) (gs : List TypeGroup) (kss : List GroupKinds) (g : TypeGroup) (ks : GroupKinds)
     → Kinded N gs kss → AreKindsOf (grown N gs kss) g ks → Kinded N (gs ++ g ∷ []) (kss ++ ks ∷ [])
 kinded-push N [] kss g ks h l = subst (λ x. Kinded N (g ∷ []) (x ++ ks ∷ [])) (sym h) (l, refl)
@@ -204,11 +195,6 @@ gone-more N gs i old new g d env next l e h f =
           )
           (grown-push N (take i gs) old g f.next n k h.kinded));
     })))
-
-pub gone-all : (N : NameKinds) (gs : List TypeGroup) (i : ℕ) (kss : List GroupKinds) (env : KindEnv) → i ≡ length gs
-    → Gone N (take i gs) kss env → Kinded N gs kss
-gone-all N gs i kss env e h =
-    subst (λ z. Kinded N z kss) (take_end gs i e) h.kinded
 
 split-at : {A : Type 0} (xs : List A) (i : ℕ) (d : A) → i < length xs
     → take i xs ++ (get_or xs i d ∷ drop (suc i) xs) ≡ xs

@@ -22,18 +22,6 @@ type_app f a = refl
 pub stacked_types-push : (ts : List Ty) (t : Ty) → stacked_types (ts ++ t ∷ []) ≡ type_term t ∷ stacked_types ts
 stacked_types-push ts t = ap (map type_term) (reverse-append ts (t ∷ []))
 
--- an argument is taken from the stack and applied
-pub applied-next : (old new : List Ty) (arg all next : Ty) (whole : TypeTerm) → old ≡ new ++ arg ∷ []
-    → type_term next ≡ app (type_term all) (type_term arg) → applied_to (type_term all) (stacked_types old) ≡ whole
-    → applied_to (type_term next) (stacked_types new) ≡ whole
-applied-next old new arg all next whole e f h =
-    ap (λ t. applied_to t (stacked_types new)) f
-    ∙ sym (ap (applied_to (type_term all)) (ap stacked_types e ∙ stacked_types-push new arg)) ∙ h
-
-pub applied-end : (old : List Ty) (all : Ty) (whole : TypeTerm) → old ≡ []
-    → applied_to (type_term all) (stacked_types old) ≡ whole → type_term all ≡ whole
-applied-end old all whole e h = sym (ap (λ ts. applied_to (type_term all) (stacked_types ts)) e) ∙ h
-
 -- ---- the first arguments
 
 take_next : {A : Type 0} (xs rest : List A) (i : ℕ) (x : A) → drop i xs ≡ x ∷ rest
@@ -75,9 +63,6 @@ take_none (y ∷ ys) (suc i) e = let h = take_none ys i e in (ap (λ zs. y ∷ z
 pub record Taken (all : List TypeTerm) (i : ℕ) (front rest : List Ty) : Type 0 where
   pub fronts : map type_term front ≡ take i all
   pub rests : stacked_types rest ≡ drop i all
-
-pub taken-start : (args : List Ty) (front : List Ty) → front ≡ [] → Taken (stacked_types args) 0 front args
-taken-start args front e = record { fronts = ap (map type_term) e; rests = refl }
 
 pub taken-next : (all : List TypeTerm) (i : ℕ) (front rest more left : List Ty) (arg : Ty) → rest ≡ left ++ arg ∷ []
     → more ≡ front ++ arg ∷ [] → Taken all i front rest → Taken all (i + 1) more left

@@ -51,9 +51,6 @@ number_here i rest tail d n is same =
     let t : same_original d.name n ≡ true = ap (same_original d.name) (sym same) ∙ original_itself d.name in
     ap (λ r. number_of i (decls_of r) n) is ∙ rw t refl
 
-pub number_none : (i : ℕ) (rest : List GroupDecl) (n : OrigName) → rest ≡ [] → number_of i (decls_of rest) n ≡ []
-number_none i rest n e = ap (λ r. number_of i (decls_of r) n) e
-
 -- ---- numbers that join
 
 pub with_numbers-append : (ns ms ks : List ℕ) → with_numbers ns (ms ++ ks) ≡ with_numbers (with_numbers ns ms) ks
@@ -306,17 +303,3 @@ pub uses_in_range : (ds : List TypeDecl) → InRange (type_uses ds)
 uses_in_range ds v w h = subst (λ n. w < n) (sym (length-map ds _)) (in_uses ds ds v w h)
 
 -- ---- the declarations of a group
-
-pub member_there : (ds : List GroupDecl) (m : ℕ) (d : GroupDecl) (old new : List GroupDecl) → slice_get ds m ≡ Some d
-    → new ≡ old ++ d ∷ [] → new ≡ old ++ chosen ds (m ∷ [])
-member_there ds m d old new e f = f ∙ sym (ap (λ o. old ++ (option_to_list o ++ [])) e)
-
-pub member_none : (ds : List GroupDecl) (m : ℕ) (old : List GroupDecl) → slice_get ds m ≡ None
-    → old ≡ old ++ chosen ds (m ∷ [])
-member_none ds m old e = sym (ap (λ o. old ++ (option_to_list o ++ [])) e ∙ append-nil old)
-
-pub member-next : (ds : List GroupDecl) (ms : List ℕ) (i d : ℕ) (old new : List GroupDecl) → i < length ms
-    → old ≡ chosen ds (take i ms) → new ≡ old ++ chosen ds (get_or ms i d ∷ []) → new ≡ chosen ds (take (i + 1) ms)
-member-next ds ms i d old new l e f =
-    f ∙ ap₂ (λ x y. x ++ y) e (append-nil (option_to_list (slice_get ds (get_or ms i d))))
-    ∙ sym (flat_next (λ j. option_to_list (slice_get ds j)) ms i d l)
