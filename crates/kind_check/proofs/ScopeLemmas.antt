@@ -160,13 +160,9 @@ stands_below [] n i s = absurd s
 stands_below (d ∷ ds) n zero s = omega arith
 stands_below (d ∷ ds) n (suc i) s = let l = stands_below ds n i s.1 in omega (arith, l)
 
-)
-
 pub some_same : (j k : KindTerm) → Some j ≡ Some k → j ≡ k
 some_same j k e = ap inner e
   where
     inner : Option KindTerm → KindTerm
     inner (Some i) = i
     inner None = star
-
-)

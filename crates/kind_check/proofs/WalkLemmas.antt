@@ -88,8 +88,6 @@ HasKind-map N M f g (con m) k p q h = p m k h
 HasKind-map N M f g (app a b) k p q h =
     (h.0, HasKind-map N M f g a (arrow h.0 k) p q h.1, HasKind-map N M f g b h.0 p q h.2)
 
-}
-
 -- a guess that agrees gives the type the same kind
 pub fits-agree : (names : Guess → NameKinds) (vars : Guess → ℕ → KindTerm) (n : ℕ) (t : TypeTerm) (j : KindTerm)
     (g h : Guess) → Local names vars n → Agree n g h
