@@ -84,6 +84,14 @@ fn sinks_in_memory(rt: HostRuntime) -> Result<(), Fail> {
     Ok(())
 }
 
+/// Paths of no file, of which no file can have the last two.
+const ABSENT: [&[u8]; 4] = [
+    b"tree_test/N.hs",
+    b"tree_test/M.hs/N.hs",
+    b"tree_test/\xff",
+    b"tree_test/M.hs\0",
+];
+
 #[test]
 fn a_folder_is_read(rt: HostRuntime) -> Result<(), Fail> {
     let alloc = rt.alloc();
@@ -97,18 +105,11 @@ fn a_folder_is_read(rt: HostRuntime) -> Result<(), Fail> {
             b"module M"
         )
     );
-    assert!(rt;
-        tree.read(alloc, &path(alloc, b"tree_test/N.hs")?)?
-            .is_none()
-    );
-    assert!(rt;
-        tree.read(alloc, &path(alloc, b"tree_test/M.hs/N.hs")?)?
-            .is_none()
-    );
-    assert!(rt;
-        tree.read(alloc, &path(alloc, b"tree_test/\xff")?)?
-            .is_none()
-    );
+    for name in ABSENT {
+        assert!(rt; tree.read(alloc, &path(alloc, name)?)?.is_none());
+    }
+    let long = vec![in alloc; b'a'; 300]?;
+    assert!(rt; tree.read(alloc, &path(alloc, &long)?)?.is_none());
     let folder = tree.read(alloc, &path(alloc, b"tree_test")?);
     assert!(rt; matches!(folder, Err(ReadError::Failed)));
     Ok(())

@@ -34,7 +34,7 @@ block_here : (l : Line) (ls : List Line) → l.indent ≡ 0 → blocks 0 (l ∷ 
 block_here l ls e = grind (arith, common_steps)
 
 -- the first line of the rest, of indent 0, begins a block
-block_first : (rest : List Line) (line : Line) (k : ℕ) → 1 ≤ length rest → line ≡ get_or rest 0 line → line.indent ≡ 0
+pub block_first : (rest : List Line) (line : Line) (k : ℕ) → 1 ≤ length rest → line ≡ get_or rest 0 line → line.indent ≡ 0
     → k ≡ prefix_len (λ x. nat_lt 0 x.indent) (take (length rest - 1) (drop 1 rest))
     → blocks 0 rest ≡ block line (take k (take (length rest - 1) (drop 1 rest)))
     ∷ blocks 0 (take (length rest - 1) (drop 1 rest))

@@ -101,7 +101,7 @@ pub fn is_refused_item(item: &[u8]) -> bool
 }
 
 /// What stands behind the last slash.
-fn behind_slash(path: &[u8]) -> &[u8]
+pub fn behind_slash(path: &[u8]) -> &[u8]
     ensures { result.now ≡ behind_slash path.now path.now }
 {
     let mut behind = path;

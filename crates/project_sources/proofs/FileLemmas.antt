@@ -35,16 +35,23 @@ absent_told files path component at seen d e h =
     subst (λ (o : Option Text). (sized_if limited seen (Wrong (defect_at NoSource component at (Named path))) o).fails
     (Wrong d)) (sym (nothing 1048577 (content_at files path) e)) (ap Wrong h)
 
-front_sized : (o : Option Text) (bytes : Text) (seen : ℕ) (q : Refused) (r : Result Text Stop)
-    → Some bytes ≡ option_map (take 1048577) o → Stops (sized limited seen bytes) r
-    → Stops (sized_if limited seen q o) r
+-- a content that is within the limits is its own front
+pub front_passes : (c bytes b : Text) (seen : ℕ) → bytes ≡ take 1048577 c → (sized limited seen bytes).passes b
+    → (sized limited seen c).passes b
 unfolding sized
-front_sized None bytes seen q r e h = absurd (cc)
-front_sized (Some c) bytes seen q r e h = by r h
+front_passes c bytes b seen is k = subst (λ (t : Text). (sized limited seen t).passes b) (len k.1.1) k
   where
-    is : bytes ≡ take 1048577 c
-    is = cc
+    len : length bytes ≤ 1048576 → bytes ≡ c
+    len l =
+        let k : length c ≤ 1048577 = omega (arith, ap length is, length-take 1048577 c, l) in
+        is ∙ take_all 1048577 c k
 
+-- a front is refused as the content is
+pub front_fails : (c bytes : Text) (seen : ℕ) (x : Refused) → bytes ≡ take 1048577 c → (sized limited seen bytes).fails x
+    → (sized limited seen c).fails x
+unfolding sized
+front_fails c bytes seen x is h = by x h
+  where
     len : length bytes ≤ 1048576 → bytes ≡ c
     len l =
         let k : length c ≤ 1048577 = omega (arith, ap length is, length-take 1048577 c, l) in
@@ -53,14 +60,24 @@ front_sized (Some c) bytes seen q r e h = by r h
     long : 1048576 < length bytes → 1048576 < length c
     long l = omega (arith, ap length is, length-take 1048577 c, l)
 
-    fails : (x : Refused) → (sized limited seen bytes).fails x → (sized limited seen c).fails x
-    fails x (inl (inl p)) = inl (inl (long p.0, p.1))
-    fails x (inl (inr p)) = subst (λ (t : Text). (sized limited seen t).fails x) (len p.1) (inl (inr p))
-    fails x (inr p) = absurd p.2
+    by : (y : Refused) → (sized limited seen bytes).fails y → (sized limited seen c).fails y
+    by y (inl (inl p)) = inl (inl (long p.0, p.1))
+    by y (inl (inr p)) = subst (λ (t : Text). (sized limited seen t).fails y) (len p.1) (inl (inr p))
+    by y (inr p) = absurd p.2
+
+front_sized : (o : Option Text) (bytes : Text) (seen : ℕ) (q : Refused) (r : Result Text Stop)
+    → Some bytes ≡ option_map (take 1048577) o → Stops (sized limited seen bytes) r
+    → Stops (sized_if limited seen q o) r
+front_sized None bytes seen q r e h = absurd (cc)
+front_sized (Some c) bytes seen q r e h = by r h
+  where
+    is : bytes ≡ take 1048577 c
+    is = cc
 
     by : (t : Result Text Stop) → Stops (sized limited seen bytes) t → Stops (sized limited seen c) t
-    by (Ok b) k = subst (λ (t : Text). (sized limited seen t).passes b) (len k.1.1) k
-    by (Err stop) k = OnStop-map stop (sized limited seen bytes).fails (sized limited seen c).fails fails k
+    by (Ok b) k = front_passes c bytes b seen is k
+    by (Err stop) k = OnStop-map stop (sized limited seen bytes).fails (sized limited seen c).fails
+        (λ x z. front_fails c bytes seen x is z) k
 
 -- what the front of a file says is said of the file
 pub sized_told : (files : List File) (path component at bytes : Text) (seen : ℕ) (r : Result Text Stop)
@@ -80,14 +97,14 @@ read_told told path component at bytes seen (Ok b) e h =
 read_told told path component at bytes seen (Err stop) e h =
     λ files t. sized_told files path component at bytes seen (Err stop) (e files t) h
 
-IsExact-refused : {B : Type 0} (q : Refused) → IsExact (refused {B = B} q)
+pub IsExact-refused : {B : Type 0} (q : Refused) → IsExact (refused {B = B} q)
 IsExact-refused q = record {
   one_answer = λ b c p z. absurd p;
   one_refusal = λ r x p z. p ∙ sym z;
   never_both = λ b r p z. p;
 }
 
-IsExact-sized : (l : Limits) (seen : ℕ) (content : Text) → IsExact (sized l seen content)
+pub IsExact-sized : (l : Limits) (seen : ℕ) (content : Text) → IsExact (sized l seen content)
 unfolding sized
 IsExact-sized l seen content =
     IsExact-then _ _ (IsExact-then _ _ (IsExact-at_most l.file_bytes (length content) _)
@@ -103,17 +120,18 @@ pub IsExact-whole_file : (l : Limits) (files : List File) (seen : ℕ) (componen
 unfolding whole_file
 IsExact-whole_file l files seen component at path = IsExact-sized_if l seen _ (content_at files path)
 
-IsWithin-sized : (l : Limits) (seen : ℕ) (content : Text)
-    → IsWithin IsWrong (sized l seen content) (sized unlimited seen content)
+-- without limits it doesn't matter what was read before
+pub IsWithin-sized : (l : Limits) (seen other : ℕ) (content : Text)
+    → IsWithin IsWrong (sized l seen content) (sized unlimited other content)
 unfolding sized
-IsWithin-sized l seen content =
+IsWithin-sized l seen other content =
     IsWithin-then IsWrong _ _ _ _ (IsWithin-then IsWrong _ _ _ _ (IsWithin-at_most l.file_bytes (length content) _)
     (λ b. IsWithin-at_most l.source_bytes (seen + length content) _)) (λ b. IsWithin-given IsWrong content)
 
 IsWithin-sized_if : (l : Limits) (seen : ℕ) (q : Refused) (o : Option Text)
     → IsWithin IsWrong (sized_if l seen q o) (sized_if unlimited seen q o)
 IsWithin-sized_if l seen q None = record { answer = λ b p. p; refusal = λ r k p. p }
-IsWithin-sized_if l seen q (Some c) = IsWithin-sized l seen c
+IsWithin-sized_if l seen q (Some c) = IsWithin-sized l seen seen c
 
 -- a file is refused as without limits, but for the limits
 pub IsWithin-whole_file : (l : Limits) (files : List File) (seen : ℕ) (component at path : Text)

@@ -5,3 +5,4 @@ pub mod TextLemmas
 pub mod ProjectLemmas
 pub mod PackageLemmas
 pub mod WholeLemmas
+pub mod SourceLemmas

@@ -43,15 +43,15 @@ module _ (told : Option (List File)) (seen : ℕ) (path : Text) where
   package_told content cs p h k e = λ files t. (content, h files t, (cs, k, e))
 
 -- the bytes of one more
-pub total-push : (ps : List Package) (p : Package) → total (ps ++ p ∷ []) ≡ total ps + p.bytes
+pub total-push : (ps : List Package) (p : Package) → total (ps ++ p ∷ []) ≡ total ps + length p.content
 total-push [] p = omega arith
 total-push (x ∷ ps) p = let e = total-push ps p in omega (arith, e)
 
 pub total_more : (seen read : ℕ) (ps new : List Package) (p : Package) → read ≡ seen + total ps → new ≡ ps ++ p ∷ []
-    → read + p.bytes ≡ seen + total new
+    → read + length p.content ≡ seen + total new
 total_more seen read ps new p e n =
     let t = total-push ps p in
-    subst (λ (xs : List Package). read + p.bytes ≡ seen + total xs) (sym n) (omega (arith, e, t))
+    subst (λ (xs : List Package). read + length p.content ≡ seen + total xs) (sym n) (omega (arith, e, t))
 
 -- the step of a loop over package files
 abbrev pub one_package : List File → ℕ → List Package → Text → Check Package Refused

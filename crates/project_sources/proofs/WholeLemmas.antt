@@ -2,7 +2,8 @@
 use Rattle.std.proofs.Common.{◌≡◌, inl, inr, Option, List, [], Ok, Err, subst, ◌∙◌}
 use Rattle.bp_base.specs.Texts.{Text}
 use Rattle.bp_base.specs.declared.defect.Refusal.{Refusal}
-use Rattle.bp_checks.specs.Refused.{OnRefusal}
+use Rattle.bp_checks.specs.Check.{IsExact, IsWithin}
+use Rattle.bp_checks.specs.Refused.{OnRefusal, IsWrong}
 use Rattle.bp_checks.specs.Stop.{Tells, stop_of}
 use Rattle.bp_checks.specs.declared.stop.Stop.{Stop}
 use Rattle.bp_checks.proofs.RefusedLemmas.{OnStop-map, OnRefusal-map, OnRefusal-stops}
@@ -11,12 +12,17 @@ use Rattle.cabal_component.specs.declared.component.Component.{Component}
 use Rattle.project_sources.specs.declared.project.Package.{Package}
 use Rattle.project_sources.specs.declared.project.Named.{Named}
 use Rattle.project_sources.specs.declared.project.Project.{Project}
-use Rattle.project_sources.specs.Limits.{limited}
+use Rattle.project_sources.specs.Limits.{Limits, limited, unlimited}
 use Rattle.project_sources.specs.Reading.{whole_file}
 use Rattle.project_sources.specs.Texts.{package_files}
 use Rattle.project_sources.specs.Once.{told_apart}
 use Rattle.project_sources.specs.Project.{packages_at, named_files, named_of, components_of, project_at, project_of}
 use Rattle.project_sources.specs.Project.{project_path}
+use Rattle.bp_checks.proofs.CheckLemmas.{IsExact-then, IsExact-given, IsWithin-then, IsWithin-given}
+use Rattle.project_sources.proofs.FileLemmas.{IsExact-whole_file, IsWithin-whole_file}
+use Rattle.project_sources.proofs.TextLemmas.{IsExact-package_files}
+use Rattle.project_sources.proofs.PackageLemmas.{IsExact-packages_at, IsWithin-packages_at}
+use Rattle.project_sources.proofs.OnceLemmas.{IsExact-told_apart, IsWithin-told_apart}
 
 module _ (told : Option (List File)) where
   module _ (path : Text) (is : path ≡ project_path) where
@@ -81,3 +87,30 @@ module _ (told : Option (List File)) where
     project_told ps cs u p k e a d = λ files t.
         let apart = subst (λ (xs : List Component). (told_apart limited xs).passes u) e a in
         (n, h files t, (ps, k files (same ∙ t), (u, apart, d)))
+
+IsExact-named_files : (l : Limits) (files : List File) → IsExact (named_files l files)
+unfolding named_files
+IsExact-named_files l files = IsExact-then _ _ (IsExact-whole_file l files 0 [] [] project_path)
+    (λ content. IsExact-then _ _ (IsExact-package_files content) (λ paths. IsExact-given (named_of content paths)))
+
+-- a project has one outcome
+pub IsExact-project_at : (l : Limits) (files : List File) → IsExact (project_at l files)
+unfolding project_at
+IsExact-project_at l files = IsExact-then _ _ (IsExact-named_files l files) (λ n.
+    IsExact-then _ _ (IsExact-packages_at l files n.bytes n.paths) (λ ps.
+    IsExact-then _ _ (IsExact-told_apart l (components_of ps)) (λ _. IsExact-given (project_of n ps))))
+
+IsWithin-named_files : (l : Limits) (files : List File)
+    → IsWithin IsWrong (named_files l files) (named_files unlimited files)
+unfolding named_files
+IsWithin-named_files l files = IsWithin-then IsWrong _ _ _ _ (IsWithin-whole_file l files 0 [] [] project_path)
+    (λ content. record { answer = λ b p. p; refusal = λ r k p. p })
+
+-- and is refused as without limits, but for the limits
+pub IsWithin-project_at : (l : Limits) (files : List File)
+    → IsWithin IsWrong (project_at l files) (project_at unlimited files)
+unfolding project_at
+IsWithin-project_at l files = IsWithin-then IsWrong _ _ _ _ (IsWithin-named_files l files) (λ n.
+    IsWithin-then IsWrong _ _ _ _ (IsWithin-packages_at l files n.bytes n.paths) (λ ps.
+    IsWithin-then IsWrong _ _ _ _ (IsWithin-told_apart l (components_of ps))
+    (λ _. IsWithin-given IsWrong (project_of n ps))))

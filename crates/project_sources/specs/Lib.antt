@@ -3,3 +3,4 @@ pub mod Reading
 pub mod Once
 pub mod Texts
 pub mod Project
+pub mod Sources

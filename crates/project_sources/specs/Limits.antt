@@ -10,14 +10,21 @@ pub record Limits : Type 0 where
   pub source_bytes : Option ℕ
   -- components of a project
   pub components : Option ℕ
+  -- modules and signatures of a component
+  pub own_modules : Option ℕ
 
 -- the limits of the program
 abbrev pub limited : Limits
-limited = record { file_bytes = Some 1048576; source_bytes = Some 33554432; components = Some 512 }
+limited = record {
+  file_bytes = Some 1048576;
+  source_bytes = Some 33554432;
+  components = Some 512;
+  own_modules = Some 512;
+}
 
 -- no limits
 abbrev pub unlimited : Limits
-unlimited = record { file_bytes = None; source_bytes = None; components = None }
+unlimited = record { file_bytes = None; source_bytes = None; components = None; own_modules = None }
 
 -- a number is within a limit, or this is refused
 abbrev pub at_most : Option ℕ → ℕ → Refused → Check (Unit {0}) Refused

@@ -17,10 +17,10 @@ use Rattle.project_sources.specs.Once.{told_apart}
 -- the bytes of package files
 abbrev pub total : List Package → ℕ
 total [] = 0
-total (p ∷ ps) = p.bytes + total ps
+total (p ∷ ps) = length p.content + total ps
 
 abbrev pub package_of : Text → Text → List Component → Package
-package_of path content cs = record { path = path; bytes = length content; components = cs }
+package_of path content cs = record { path = path; content = content; components = cs }
 
 -- the package file at a path, where so many bytes were read before it
 unfoldable pub package_at : Limits → List File → ℕ → Text → Check Package Refused
@@ -49,7 +49,7 @@ abbrev pub components_of : List Package → List Component
 components_of ps = flat_map (λ p. p.components) ps
 
 abbrev pub project_of : Named → List Package → Project
-project_of n ps = record { bytes = n.bytes; packages = ps; components = components_of ps }
+project_of n ps = record { bytes = n.bytes + total ps; packages = ps; components = components_of ps }
 
 -- a project: `cabal.project`, its package files, and components that are told apart
 unfoldable pub project_at : Limits → List File → Check Project Refused

@@ -21,7 +21,12 @@ const FILE_BYTES: usize = 1_048_576;
 const SOURCE_BYTES: u64 = 33_554_432;
 
 /// A file is absent.
-fn no_source(alloc: Global, component: &[u8], at: &[u8], path: &Path) -> Result<Defect, AllocError>
+pub fn no_source(
+    alloc: Global,
+    component: &[u8],
+    at: &[u8],
+    path: &Path,
+) -> Result<Defect, AllocError>
     ensures { IfOk result (λ defect. defect ≡ defect_at NoSource component.now at.now (Named path.now)) }
 {
     let occ = Name::from_bytes(alloc, path.as_bytes())?;
@@ -30,7 +35,7 @@ fn no_source(alloc: Global, component: &[u8], at: &[u8], path: &Path) -> Result<
 
 /// The same bytes, where they are within the limits behind so many that were read before.
 #[tactic(auto, unfolding(crate::specs::Reading::sized))]
-fn sized(bytes: Bytes, seen: u64) -> Result<Bytes, Stop>
+pub fn sized(bytes: Bytes, seen: u64) -> Result<Bytes, Stop>
     ensures stops { Stops (sized limited seen bytes) result }
     ensures no_fault { read_failed result ≡ false }
     ensures within { IfOk result (λ content. seen + length content ≤ 33554432) }

@@ -8,8 +8,9 @@ ghost use Rattle.cabal_component.specs.declared.component.Component.{Component};
 ghost use Rattle.project_sources.specs.Limits.{Limits, unlimited};
 ghost use Rattle.project_sources.specs.Reading.{whole_file};
 ghost use Rattle.project_sources.specs.Once.{told_apart};
-ghost use Rattle.project_sources.specs.Project.{packages_at};
+ghost use Rattle.project_sources.specs.Project.{packages_at, project_at};
 ghost use Rattle.project_sources.specs.Texts.{package_files, components_at};
+ghost use Rattle.project_sources.specs.Sources.{gathered};
 
 /// A file has one content, or one refusal.
 pub fn files_have_one_outcome()
@@ -44,4 +45,17 @@ pub fn packages_have_one_outcome()
     ensures one { (l : Limits) (files : List File) (seen : ℕ) (paths : List Text) → IsExact (packages_at l files seen paths) }
     ensures within { (l : Limits) (files : List File) (seen : ℕ) (paths : List Text)
         → IsWithin IsWrong (packages_at l files seen paths) (packages_at unlimited files seen paths) }
+{}
+
+/// A component has one input, or one refusal; and a defect is one without limits too, whatever was read before.
+pub fn inputs_have_one_outcome()
+    ensures one { (l : Limits) (files : List File) (seen : ℕ) (c : Component) → IsExact (gathered l files seen c) }
+    ensures within { (l : Limits) (files : List File) (seen other : ℕ) (c : Component)
+        → IsWithin IsWrong (gathered l files seen c) (gathered unlimited files other c) }
+{}
+
+/// A project has one list of components, or one refusal; and a defect is one without limits too.
+pub fn projects_have_one_outcome()
+    ensures one { (l : Limits) (files : List File) → IsExact (project_at l files) }
+    ensures within { (l : Limits) (files : List File) → IsWithin IsWrong (project_at l files) (project_at unlimited files) }
 {}

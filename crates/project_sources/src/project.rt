@@ -1,15 +1,15 @@
 //! The package files of a project.
-ghost use Rattle.std.specs.Prelude.{◌≡◌, ◌≤◌, ◌+◌, ◌++◌, List, IfOk, OnOk};
+ghost use Rattle.std.specs.Prelude.{◌≡◌, ◌≤◌, ◌+◌, ◌++◌, List, length, IfOk, OnOk};
 ghost use Rattle.bp_checks.specs.Stop.{Tells, read_failed};
 ghost use Rattle.bp_edges.specs.Causes.{IsCounted};
 ghost use Rattle.bp_edges.specs.declared.files.File.{File};
 ghost use Rattle.project_sources.specs.Limits.{limited};
-ghost use Rattle.project_sources.specs.Project.{package_at, packages_at, named_files, components_of, project_at};
+ghost use Rattle.project_sources.specs.Project.{total, package_at, packages_at, named_files, components_of, project_at};
 
 use crate::files::whole_file;
 use crate::once::told_apart;
 use crate::texts::{components_at, package_files};
-use bp_base::Path;
+use bp_base::{Bytes, Path};
 use bp_checks::Stop;
 use bp_edges::Tree;
 use cabal_component::{Component, Components, Paths};
@@ -21,8 +21,7 @@ use std::alloc::{AllocError, Global};
 pub struct Package {
     /// Where it stands.
     pub path: Path,
-    /// How many bytes it has.
-    pub bytes: u64,
+    pub content: Bytes,
     /// Its components, in its order.
     pub components: Components,
 }
@@ -41,7 +40,7 @@ pub struct Named {
 /// A project whose components are told apart.
 #[derive(Debug, Drop)]
 pub struct Project {
-    /// How many bytes `cabal.project` has.
+    /// How many bytes `cabal.project` and the package files have.
     pub bytes: u64,
     /// Its package files, in order.
     pub packages: Packages,
@@ -59,15 +58,14 @@ pub fn read_package<T: Tree>(
     ensures tells { Tells (T.files tree.old) (λ (files : List File). package_at limited files seen path.now) result }
     ensures kept { T.files tree.new ≡ T.files tree.old }
     ensures counted { IsCounted (read_failed result) (T.faults tree.old) (T.faults tree.new) }
-    ensures within { IfOk result (λ found. seen + found.bytes ≤ 33554432) }
+    ensures within { IfOk result (λ found. seen + length found.content ≤ 33554432) }
 {
     let content = whole_file(alloc, tree, path, seen, b"", b"")?;
-    let bytes = content.as_bytes().len() as u64;
     let components = components_at(alloc, path, content.as_bytes())?;
     let path = path.copied(alloc)?;
     Ok(Package {
         path,
-        bytes,
+        content,
         components,
     })
 }
@@ -82,15 +80,28 @@ pub fn read_packages<T: Tree>(
     ensures tells { Tells (T.files tree.old) (λ (files : List File). packages_at limited files seen paths.now) result }
     ensures kept { T.files tree.new ≡ T.files tree.old }
     ensures counted { IsCounted (read_failed result) (T.faults tree.old) (T.faults tree.new) }
+    ensures within { seen ≤ 33554432 → IfOk result (λ all. seen + total all ≤ 33554432) }
 {
     let mut all = Items::new(alloc);
     let mut read = seen;
     for path in paths {
         let found = read_package(alloc, tree, read, path)?;
-        read += found.bytes;
+        read += found.content.as_bytes().len() as u64;
         all.push(found)?;
     }
     Ok(all)
+}
+
+/// How many bytes package files have.
+fn package_bytes(packages: &[Package]) -> u64
+    requires { total packages.now ≤ 33554432 }
+    ensures { result ≡ total packages.now }
+{
+    let mut bytes = 0;
+    for package in packages {
+        bytes += package.content.as_bytes().len() as u64;
+    }
+    bytes
 }
 
 /// The package files that `cabal.project` names.
@@ -98,6 +109,7 @@ fn named_files<T: Tree>(alloc: Global, tree: &mut T) -> Result<Named, Stop>
     ensures tells { Tells (T.files tree.old) (λ (files : List File). named_files limited files) result }
     ensures kept { T.files tree.new ≡ T.files tree.old }
     ensures counted { IsCounted (read_failed result) (T.faults tree.old) (T.faults tree.new) }
+    ensures within { IfOk result (λ named. named.bytes ≤ 33554432) }
 {
     let path = Path::from_bytes(alloc, b"cabal.project")?;
     let content = whole_file(alloc, tree, &path, 0, b"", b"")?;
@@ -135,13 +147,14 @@ pub fn read_files<T: Tree>(alloc: Global, tree: &mut T) -> Result<Project, Stop>
     ensures tells { Tells (T.files tree.old) (λ (files : List File). project_at limited files) result }
     ensures kept { T.files tree.new ≡ T.files tree.old }
     ensures counted { IsCounted (read_failed result) (T.faults tree.old) (T.faults tree.new) }
+    ensures within { IfOk result (λ project. project.bytes ≤ 33554432) }
 {
     let named = named_files(alloc, tree)?;
     let packages = read_packages(alloc, tree, named.bytes, named.paths.as_slice())?;
     let components = components_of(alloc, packages.as_slice())?;
     told_apart(alloc, components.as_slice())?;
     Ok(Project {
-        bytes: named.bytes,
+        bytes: named.bytes + package_bytes(packages.as_slice()),
         packages,
         components,
     })

@@ -2,7 +2,9 @@ use bp_base::{Bytes, Defect, Item, Path, defect_code};
 use bp_checks::Stop;
 use bp_edges::{Calls, File, Files, MemTree};
 use cabal_component::Components;
-use project_sources::{Package, package_files, read_files, read_packages, told_apart, whole_file};
+use project_sources::{
+    Input, Package, gathered, package_files, read_files, read_packages, told_apart, whole_file,
+};
 use sqlite_items::Items;
 use std::alloc::{AllocError, Global};
 use std::process::Abort;
@@ -72,6 +74,45 @@ const ROWS: [(&[u8], u64, u64, &[u8]); 12] = [
         0,
         1,
         b"fault",
+    ),
+];
+
+/// Each row: files, how many bytes were read before, and the paths of the sources of the first component, or what is refused, as above.
+const SOURCES: [(&[u8], u64, &[u8]); 7] = [
+    (
+        b"cabal.project~packages: a|a/a.cabal~name: a\nlibrary\n signatures: H\n other-modules: A.B\n exposed-modules: M\n hs-source-dirs: s .\n|a/s/M.hs~m|a/M.hs~n|a/A/B.hs~b|a/H.hsig~h",
+        0,
+        b"a/H.hsig a/s/M.hs a/A/B.hs",
+    ),
+    (
+        b"cabal.project~packages: a.cabal|a.cabal~name: a\nexecutable e\n main-is: app/Go.hs\n other-modules: M\n|M.hs~m|app/Go.hs~g",
+        0,
+        b"M.hs app/Go.hs",
+    ),
+    (
+        b"cabal.project~packages: a|a/a.cabal~name: a\nlibrary\n exposed-modules: M\n hs-source-dirs: s t\n|a/M.hs~m",
+        0,
+        b"6 a a/s/M.hs",
+    ),
+    (
+        b"cabal.project~packages: a|a/a.cabal~name: a\nlibrary\n exposed-modules: M N\n|a/M.hs~12345|a/N.hs~1",
+        33554427,
+        b"limit",
+    ),
+    (
+        b"cabal.project~packages: a|a/a.cabal~name: a\nlibrary\n exposed-modules: M N\n|a/M.hs~12345|a/N.hs~1",
+        33554426,
+        b"a/M.hs a/N.hs",
+    ),
+    (
+        b"cabal.project~packages: a|a/a.cabal~name: a\nlibrary\n exposed-modules: M N\n|a/M.hs~12345",
+        33554428,
+        b"limit",
+    ),
+    (
+        b"cabal.project~packages: a|a/a.cabal~name: a\nlibrary\n",
+        0,
+        b"",
     ),
 ];
 
@@ -174,6 +215,47 @@ fn rows(rt: HostRuntime) -> Result<(), Fail> {
             read(alloc, &mut tree, seen)
         };
         let found = shown(alloc, &answer)?;
+        assert_eq!(rt; found.as_slice(), wanted);
+    }
+    Ok(())
+}
+
+/// The input of the first component.
+fn gather_first(alloc: Global, tree: &mut MemTree, seen: u64) -> Result<Option<Input>, Stop> {
+    let project = read_files(alloc, tree)?;
+    match project.components.as_slice() {
+        [first, ..] => Ok(Some(gathered(alloc, tree, seen, first)?)),
+        [] => Ok(None),
+    }
+}
+
+/// The paths of sources, or what is refused.
+fn shown_sources(
+    alloc: Global,
+    answer: &Result<Option<Input>, Stop>,
+) -> Result<Vec<u8>, AllocError> {
+    let mut out = Vec::new(alloc);
+    match answer {
+        Ok(Some(input)) => {
+            for source in input.sources.as_slice() {
+                push_word(&mut out, source.path.as_bytes())?;
+            }
+        }
+        Ok(None) | Err(Stop::NoMemory) => {}
+        Err(Stop::Refused(defect)) => push_defect(&mut out, defect)?,
+        Err(Stop::Limit(_)) => out.extend_from_slice(b"limit")?,
+        Err(Stop::ReadFault) => out.extend_from_slice(b"fault")?,
+    }
+    Ok(out)
+}
+
+#[test]
+fn sources_are_gathered(rt: HostRuntime) -> Result<(), Fail> {
+    let alloc = rt.alloc();
+    for (row, seen, wanted) in SOURCES {
+        let mut tree = MemTree::new(files(alloc, row)?, Calls::new(alloc));
+        let answer = gather_first(alloc, &mut tree, seen);
+        let found = shown_sources(alloc, &answer)?;
         assert_eq!(rt; found.as_slice(), wanted);
     }
     Ok(())

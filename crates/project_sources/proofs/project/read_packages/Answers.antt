@@ -1,4 +1,4 @@
-use Rattle.std.proofs.Common.{◌∙◌}
+use Rattle.std.proofs.Common.{◌∙◌, rules, arith}
 use Rattle.std.proofs.lemmas.Result.{err_from_is_err_and}
 use Rattle.project_sources.proofs.ProjectLemmas.{packages_stopped, packages_more, packages_end, total_more}
 use Rattle.project_sources.proofs.project.read_packages.Goals as goal
@@ -23,6 +23,7 @@ loop-path-preserved g c = (
       (c.in_ok-found.ensures.tells files (c.loop-path.invariant.1 ∙ told)) c.in_ok-push.ensures.ok,
   c.in_ok-found.ensures.kept ∙ c.loop-path.invariant.1,
   c.in_ok-found.ensures.counted ∙ c.loop-path.invariant.2,
-  total_more c.args.seen c.loop-path.read c.loop-path.all c.push.new.self c.in_ok-found.found c.loop-path.invariant.3
-      c.in_ok-push.ensures.ok,
+  rw c.as_bytes.ensures (total_more c.args.seen c.loop-path.read c.loop-path.all c.push.new.self c.in_ok-found.found
+      c.loop-path.invariant.3 c.in_ok-push.ensures.ok),
+  search (rules, arith),
 )
