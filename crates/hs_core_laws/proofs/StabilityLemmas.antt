@@ -45,12 +45,12 @@ use Rattle.hs_core.specs.Typing.{HaveAlternatives, IsAlternative, IsRightSide, H
 use Rattle.hs_core.specs.Typing.{IsTypedDecl, IsTypedAt}
 
 -- ---- lists
-map-map : {A B C : Type 0} (g : B → C) (f : A → B) (h : A → C) → ((x : A) → g (f x) ≡ h x) → (xs : List A)
+pub map-map : {A B C : Type 0} (g : B → C) (f : A → B) (h : A → C) → ((x : A) → g (f x) ≡ h x) → (xs : List A)
     → map g (map f xs) ≡ map h xs
 map-map g f h p [] = refl
 map-map g f h p (x ∷ xs) = ap₂ (λ y l. y ∷ l) (p x) (map-map g f h p xs)
 
-count-map : {A B : Type 0} (f : A → B) (xs : List A) → count (map f xs) ≡ count xs
+pub count-map : {A B : Type 0} (f : A → B) (xs : List A) → count (map f xs) ≡ count xs
 count-map f [] = refl
 count-map f (x ∷ xs) = ap suc (count-map f xs)
 
@@ -60,7 +60,7 @@ filter-step : {A B : Type 0} (f : A → B) (p : B → Bool) (q : A → Bool) (x 
 filter-step f p q x xs true h = ap (λ l. f x ∷ l) h
 filter-step f p q x xs false h = h
 
-filter-map : {A B : Type 0} (f : A → B) (p : B → Bool) (q : A → Bool) → ((x : A) → p (f x) ≡ q x) → (xs : List A)
+pub filter-map : {A B : Type 0} (f : A → B) (p : B → Bool) (q : A → Bool) → ((x : A) → p (f x) ≡ q x) → (xs : List A)
     → filter p (map f xs) ≡ map f (filter q xs)
 filter-map f p q e [] = refl
 filter-map f p q e (x ∷ xs) = ap (λ b. cond b (f x ∷ filter p (map f xs)) (filter p (map f xs))) (e x)
