@@ -1,0 +1,5 @@
+pub mod CodedLemmas
+pub mod StateLemmas
+pub mod DemandLemmas
+pub mod SyntaxLemmas
+pub mod UnknownLemmas

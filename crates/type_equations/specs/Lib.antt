@@ -1,0 +1,4 @@
+pub mod Coded
+pub mod States
+pub mod Demands
+pub mod Syntax
