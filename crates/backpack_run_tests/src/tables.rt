@@ -22,7 +22,7 @@ f a = a;\n\
 }\n";
 
 /// Sources with the flat texts of what they spell.
-pub const SPELLED: [(&[u8], &[u8]); 7] = [
+pub const SPELLED: [(&[u8], &[u8]); 11] = [
     (
         b"module M where { g :: Int; g = f 2; f :: Int -> Int; f a = a; }",
         APPLIED,
@@ -30,6 +30,13 @@ pub const SPELLED: [(&[u8], &[u8]); 7] = [
     (b"module M where {\nx :: Int;\nx = 1\n}\n", ONE),
     (b"module M where{x::Int;x=1;}", ONE),
     (b"\n module\nM where { x::Int ; x = 001 } \n", ONE),
+    (b"module M where {\tx :: Int; x = 1 }", ONE),
+    (b"module M where\nx :: Int\nx = 1\n", ONE),
+    (
+        b"module M where\n-- one\n  x :: Int {- a number -}\n  x =\n   1\n",
+        ONE,
+    ),
+    (b"module M where\r\nx :: Int\r\nx = 1\r\n", ONE),
     (b"module M where { }", EMPTY),
     (
         b"module M where{f::Int->Int;f a=a;a::Int;a=f 9223372036854775807}",
@@ -42,11 +49,12 @@ pub const SPELLED: [(&[u8], &[u8]); 7] = [
 ];
 
 /// Sources that spell no module M.
-pub const REFUSED: [&[u8]; 20] = [
+pub const REFUSED: [&[u8]; 19] = [
+    b"module M (x) where { x :: Int; x = 1 }",
+    b"x :: Int\nx = 1\n",
     b"",
     b"module N where { }",
     b"module M where {;}",
-    b"module M where { } }",
     b"module M where { x = 1 }",
     b"module M where { x :: Int }",
     b"module M where { x :: Int; x = }",
@@ -60,8 +68,6 @@ pub const REFUSED: [&[u8]; 20] = [
     b"module M where { x :: Int; x 1 = 1 }",
     b"module M where { x :: Int -> ; x = 1 }",
     b"module M where { x :: Int; x = 1a }",
-    b"module M where { x :: Int; x = 9223372036854775808 }",
-    b"module M where {\tx :: Int; x = 1 }",
     b"module M where { x :: Int->Int->Int->Int->Int->Int->Int->Int->Int->Int->Int->Int->Int->Int->Int->Int->Int->Int; x = x }",
 ];
 
@@ -121,5 +127,178 @@ pub const REFUSALS: [(&[u8], &[u8], usize, u8, &[u8]); 6] = [
         3,
         2,
         b"usage: backpack build|check|link|show|units NAME or sample N\n",
+    ),
+];
+
+/// Projects, as path, `~` and content between `|`, with the target, the reading that fails, the status, and the note.
+pub const PROJECTS: [(&[u8], &[u8], u64, u8, &[u8]); 25] = [
+    (
+        b"cabal.project~packages: .\n",
+        b"a",
+        1,
+        1,
+        b"refused 1 ProjectSyntax - - 1\n",
+    ),
+    (
+        b"cabal.project~packages:\n",
+        b"a",
+        9,
+        1,
+        b"refused 3 NoComponent - - a\n",
+    ),
+    (
+        b"cabal.project~packages: a\n|a/a.cabal~library\n",
+        b"a",
+        2,
+        1,
+        b"refused 2 ComponentSyntax a/a.cabal - 1\n",
+    ),
+    (
+        b"cabal.project~packages: a\n|a/a.cabal~name: a\nlibrary\n  exposed-modules: M\n  exposed-modules: N\n",
+        b"a",
+        9,
+        1,
+        b"refused 2 ComponentSyntax a/a.cabal - 4\n",
+    ),
+    (
+        b"cabal.project~packages: a b\n|a/a.cabal~name: a\nlibrary\n|b/b.cabal~name: a\nlibrary\n",
+        b"a",
+        9,
+        1,
+        b"refused 4 TwiceComponent a - -\n",
+    ),
+    (
+        b"cabal.project~packages: a\n|a/a.cabal~name: a\nlibrary\n  exposed-modules: M\n  build-depends: base, x\n",
+        b"a",
+        9,
+        1,
+        b"refused 3 NoComponent a - x\n",
+    ),
+    (
+        b"cabal.project~packages: a b\n|a/a.cabal~name: a\nlibrary\n  build-depends: b\n|b/b.cabal~name: b\nlibrary\n  build-depends: a\n",
+        b"b",
+        9,
+        1,
+        b"refused 5 DependencyCycle b - -\n",
+    ),
+    (b"", b"a", 9, 1, b"refused 6 NoSource - - cabal.project\n"),
+    (
+        b"cabal.project~packages: a/\n",
+        b"a",
+        9,
+        1,
+        b"refused 6 NoSource - - a/a.cabal\n",
+    ),
+    (
+        b"cabal.project~packages: a\n|a/a.cabal~name: a\nlibrary\n  exposed-modules: Data.M\n  hs-source-dirs: src, .\n",
+        b"a",
+        9,
+        1,
+        b"refused 6 NoSource a Data.M a/src/Data/M.hs\n",
+    ),
+    (
+        b"cabal.project~packages: a\n|a/a.cabal~name: a\nlibrary\n  exposed-modules: M\n|a/M.hs~module M where { x :: Int; x = 1.5 }",
+        b"a",
+        9,
+        1,
+        b"refused 7 LeftOut a M 31\n",
+    ),
+    (
+        b"cabal.project~packages: a\n|a/a.cabal~name: a\nlibrary\n  exposed-modules: M\n|a/M.hs~module M where { x :: Int; x = \" }",
+        b"a",
+        9,
+        1,
+        b"refused 8 Lexical a M 31\n",
+    ),
+    (
+        b"cabal.project~packages: a\n|a/a.cabal~name: a\nlibrary\n  exposed-modules: M\n|a/M.hs~module M where { x :: Int; x = 9223372036854775808 }",
+        b"a",
+        9,
+        1,
+        b"refused 8 Lexical a M 31\n",
+    ),
+    (
+        b"cabal.project~packages: a\n|a/a.cabal~name: a\nlibrary\n  exposed-modules: M\n|a/M.hs~module M where { } }",
+        b"a",
+        9,
+        1,
+        b"refused 9 Layout a M 19\n",
+    ),
+    (
+        b"cabal.project~packages: a\n|a/a.cabal~name: a\nlibrary\n  exposed-modules: M\n|a/M.hs~module M where { x = 1",
+        b"a",
+        9,
+        1,
+        b"refused 9 Layout a M 22\n",
+    ),
+    (
+        b"cabal.project~packages: a\n|a/a.cabal~name: a\nlibrary\n  exposed-modules: M\n|a/M.hs~module N where { }",
+        b"a",
+        9,
+        1,
+        b"refused 10 Syntax a M 0\n",
+    ),
+    (
+        b"cabal.project~packages: a\n|a/a.cabal~name: a\nlibrary\n  exposed-modules: M\n  build-depends: base\n  mixins: base (Prelude)\n",
+        b"a",
+        9,
+        1,
+        b"refused 2 ComponentSyntax a/a.cabal - 5\n",
+    ),
+    (
+        b"cabal.project~packages: a\n|a/a.cabal~name: a\nlibrary\n  signatures: H\n  exposed-modules: M\n",
+        b"a",
+        9,
+        1,
+        b"refused 2 ComponentSyntax a/a.cabal - 3\n",
+    ),
+    (
+        b"cabal.project~packages: a\n|a/a.cabal~name: a\nlibrary\n  exposed-modules: M\n  other-modules: N\n",
+        b"a",
+        9,
+        1,
+        b"refused 2 ComponentSyntax a/a.cabal - 3\n",
+    ),
+    (
+        b"cabal.project~packages: a\n|a/a.cabal~name: a\nlibrary\n",
+        b"a",
+        9,
+        1,
+        b"refused 2 ComponentSyntax a/a.cabal - 2\n",
+    ),
+    (
+        b"cabal.project~packages: a\n|a/a.cabal~name: a\nexecutable e\n  main-is: M.hs\n",
+        b"a:exe:e",
+        9,
+        1,
+        b"refused 2 ComponentSyntax a/a.cabal - 2\n",
+    ),
+    (
+        b"cabal.project~packages: a b\n|a/a.cabal~name: a\nlibrary\n  exposed-modules: M\n  build-depends: base, b\n|b/b.cabal~name: b\nlibrary\n  exposed-modules: N\n",
+        b"a",
+        9,
+        1,
+        b"refused 2 ComponentSyntax a/a.cabal - 4\n",
+    ),
+    (
+        b"cabal.project~packages: a\n|a/a.cabal~name: a\nlibrary\n  exposed-modules: M\n|a/M.hs~module M where",
+        b"a",
+        2,
+        3,
+        b"fault read\n",
+    ),
+    (
+        b"cabal.project~packages: a\n|a/a.cabal~name: a\nlibrary\n  exposed-modules: M\n|a/M.hs~module M where",
+        b"a",
+        9,
+        0,
+        b"",
+    ),
+    (
+        b"cabal.project~packages: a b\n|a/a.cabal~name: a\nlibrary s\n  exposed-modules: M\n  hs-source-dirs: x y\n|b/b.cabal~name: b\nlibrary\n  exposed-modules: N P\n|a/y/M.hs~module M where",
+        b"a:s",
+        9,
+        0,
+        b"",
     ),
 ];

@@ -3,17 +3,21 @@ use Rattle.std.proofs.Common.{◌≡◌, ℕ, List, [], ◌∷◌, Err, map, sym
 use Rattle.std.specs.HashMap.{HashMap}
 use Rattle.bp_base.specs.Texts.{Text}
 use Rattle.bp_base.specs.declared.defect.Refusal.{Refusal}
+use Rattle.bp_checks.specs.BuildOrder.{Asks, IsAbsent}
+use Rattle.bp_checks.specs.Check.{IsExact}
 use Rattle.bp_checks.specs.Refused.{Refused, OnRefusal}
 use Rattle.bp_checks.specs.Walk.{WalkStop}
 use Rattle.bp_checks.specs.Walk.WalkStop.{Cycle, Blocked}
+use Rattle.bp_checks.proofs.CheckLemmas.{IsExact-refusing}
 use Rattle.bp_checks.proofs.RefusedLemmas.{OnRefusal-map}
+use Rattle.bp_checks.proofs.WalkLemmas.{IsExact-walk}
 use Rattle.graph_walk.specs.declared.walk.Node.{Node}
 use Rattle.graph_walk.specs.declared.walk.Use.{Use}
 use Rattle.graph_walk.specs.declared.walk.WalkError.{WalkError}
 use Rattle.graph_walk.specs.declared.walk.WalkError.TheVariants as e
 use Rattle.graph_walk.specs.Graph.{walk_from, ChecksWalk}
 use Rattle.cabal_component.specs.declared.component.Component.{Component}
-use Rattle.project_order.specs.Order.{build_order, order_refused}
+use Rattle.project_order.specs.Order.{build_order, deps_in, is_listed, order_refused}
 use Rattle.project_order.specs.Numbers.{number_in, number_at, name_at, all_names, nodes_of, stop_of, RefusesAt}
 use Rattle.project_order.proofs.NumberLemmas.{order-named, stop-named}
 
@@ -54,3 +58,10 @@ module _ {S : Type 0} (cs : List Component) (target : Text) (ns : List Text) (ta
   refusal_told (e.Absent wanted) refusal v h =
       OnRefusal-map refusal _ (build_order cs target).fails (λ r is. stopped (Blocked wanted) r v is) h
   refusal_told e.NoMemory refusal v h = subst (λ (x : Refusal). OnRefusal x (build_order cs target).fails) (sym h) tt
+
+-- a target has one order, or one refusal
+pub IsExact-build_order : (cs : List Component) (target : Text) → IsExact (build_order cs target)
+unfolding build_order
+IsExact-build_order cs target = IsExact-refusing order_refused _
+    (IsExact-walk (λ e. e.name) (Asks (deps_in cs)) (IsAbsent (is_listed cs)) (λ a xs ys p q. p ∙ sym q)
+    (λ path e r q x y. x.1 ∙ sym y.1) _)

@@ -12,7 +12,7 @@ use Rattle.bp_base.specs.declared.defect.Refusal.{Refusal}
 use Rattle.bp_checks.specs.declared.stop.Stop.{Stop}
 use Rattle.bp_checks.specs.declared.stop.Stop.TheVariants as s
 use Rattle.bp_checks.proofs.CheckLemmas.{IsExact-then, IsExact-given, IsExact-each}
-use Rattle.bp_checks.proofs.CheckLemmas.{IsWithin-then, IsWithin-given, IsWithin-each, Through-start}
+use Rattle.bp_checks.proofs.CheckLemmas.{IsWithin-then, IsWithin-given, IsWithin-each}
 use Rattle.bp_checks.proofs.LoopLemmas.{stopped_on_the_way, one_more, at_the_end}
 use Rattle.bp_checks.proofs.RefusedLemmas.{OnStop-map, OnRefusal-map, OnRefusal-stops}
 use Rattle.bp_edges.specs.declared.files.File.{File}
@@ -23,7 +23,7 @@ use Rattle.project_sources.specs.declared.sources.Source.{Source}
 use Rattle.project_sources.specs.declared.sources.Wanted.{Wanted}
 use Rattle.project_sources.specs.declared.sources.Input.{Input}
 use Rattle.project_sources.specs.Limits.{Limits, limited, unlimited, at_most}
-use Rattle.project_sources.specs.Reading.{sized, refused, Stops}
+use Rattle.project_sources.specs.Reading.{Stops}
 use Rattle.project_sources.specs.Sources.{source_at, source_front, first_there, sized_file, sized_source, absent_at}
 use Rattle.project_sources.specs.Sources.{paths_of, source_found, sources_found, source_total, gathered, input_of}
 use Rattle.project_sources.specs.Sources.{wanted_of, or_later, own_modules_hit}

@@ -1,13 +1,13 @@
 -- The sources of a component: where each may stand, and what is read of them (Haskell 2010 Report, section 5.1; Cabal
 -- manual, "hs-source-dirs").
-use Rattle.std.specs.Prelude.{◌≡◌, ◌+◌, ◌-◌, ◌==◌, ℕ, Bool, true, false, Option, Some, None, List, [], ◌∷◌, ◌++◌, length}
+use Rattle.std.specs.Prelude.{◌+◌, ◌-◌, ◌==◌, ℕ, Bool, true, false, Option, Some, None, List, [], ◌∷◌, ◌++◌, length}
 use Rattle.std.specs.Prelude.{take, map, codes, if◌then◌else◌}
 use Rattle.std.specs.Str.{bytes_eq}
 use Rattle.bp_base.specs.Texts.{Text}
 use Rattle.bp_base.specs.declared.code.Code.TheVariants.{NoSource}
 use Rattle.bp_base.specs.declared.code.Which.TheVariants.{OwnModules}
 use Rattle.bp_base.specs.declared.defect.Item.TheVariants.{Named}
-use Rattle.bp_checks.specs.Check.{Check, ◌>>=◌, ◌>>◌, given, each}
+use Rattle.bp_checks.specs.Check.{Check, ◌>>=◌, given, each}
 use Rattle.bp_checks.specs.Refused.{Refused, Wrong, Passed, defect_at}
 use Rattle.bp_edges.specs.declared.files.File.{File}
 use Rattle.bp_edges.specs.Files.{content_at}

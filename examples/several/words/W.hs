@@ -1,0 +1,1 @@
+module W where { g :: Int; g = 7 }
