@@ -1,0 +1,4 @@
+pub mod NameLemmas
+pub mod LiteralLemmas
+pub mod PrintableLemmas
+pub mod ExampleLemmas

@@ -1,0 +1,4 @@
+pub mod Names
+pub mod Literals
+pub mod Laws
+pub mod Examples
