@@ -96,7 +96,7 @@ front_of_tokens : (lone : Bool) (l : Links) → front_tokens (front_of l) ≡ (l
 front_of_tokens lone (x, None) = plain_spelled x ∙ sym (append-nil (spelling_infix x))
 front_of_tokens lone (x, Some op) = refl
 
-front_of_good : (lone : Bool) (limit : Option ℕ) (l : Links) → (within (links lone) limit).Good l →
+pub front_of_good : (lone : Bool) (limit : Option ℕ) (l : Links) → (within (links lone) limit).Good l →
     (within (fronts lone) limit).Good (front_of l)
 front_of_good lone limit (x, None) g = (ap good_of (plain_facts x) ∙ g.0, subst (Within limit) (sym (plain_deep x)) g.1)
 front_of_good lone limit (x, Some op) g = g

@@ -91,7 +91,7 @@ piece_reads limit n op v rest r = record {
       (λ i. (cut.0 i, found.0 i), found.1);
 }
 
-lowered_none : (limit : Option ℕ) → lowered limit 0 ≡ limit
+pub lowered_none : (limit : Option ℕ) → lowered limit 0 ≡ limit
 lowered_none None = refl
 lowered_none (Some m) = let e : m - 0 ≡ m = omega arith in ap Some e
 
@@ -241,7 +241,7 @@ first_state limit ts s rest m k =
     sign_long false e = omega arith
 
 -- how a tree begins
-first_is : (lone : Bool) (limit : Option ℕ) (other : Links) (s after : Ts) → (within (links lone) limit).Good other →
+pub first_is : (lone : Bool) (limit : Option ℕ) (other : Links) (s after : Ts) → (within (links lone) limit).Good other →
     begins ((links lone).extends other) after ≡ false → s ≡ (links lone).tokens other ++ after →
     (b : Bool) × (e : OperandTree) × (tail : Ts) × (s ≡ sign_tokens b ++ (spelling_operand e ++ tail))
     × (within operands (lowered limit (0 + sign b))).Good e × (begins (operands.extends e) tail ≡ false)
@@ -305,7 +305,7 @@ first_is lone limit other s after good quiet e =
         )
 
 -- a signed operand alone
-signed_good : (lone : Bool) (limit : Option ℕ) (b : Bool) (e : OperandTree) → Within limit (sign b) →
+pub signed_good : (lone : Bool) (limit : Option ℕ) (b : Bool) (e : OperandTree) → Within limit (sign b) →
     (within operands (lowered limit (0 + sign b))).Good e →
     (within (links lone) limit).Good (make_infix (make_signed b e) [], None)
 signed_good lone limit b e room good =
@@ -333,7 +333,7 @@ signed_good lone limit b e room good =
     deeper true = omega arith
     deeper false = omega arith
 
-signed_spelled : (b : Bool) (e : OperandTree) →
+pub signed_spelled : (b : Bool) (e : OperandTree) →
     spelling_infix (make_infix (make_signed b e) []) ≡ sign_tokens b ++ spelling_operand e
 signed_spelled b e =
     let s = make_signed b e in

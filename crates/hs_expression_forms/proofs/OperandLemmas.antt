@@ -189,7 +189,7 @@ case_makes = record {
   only = λ x after good e. operand_only 4 x after e;
 }
 
-apply_test : (ts : Ts) → begins starts_aexp ts ≡ true → operand_test 5 ts ≡ true
+pub apply_test : (ts : Ts) → begins starts_aexp ts ≡ true → operand_test 5 ts ≡ true
 apply_test ts h = let f = aexp_first ts h in
     ap (operand_test 5) f.2 ∙ ap (λ n. nat_eq n 5) f.3
 

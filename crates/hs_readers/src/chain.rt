@@ -12,17 +12,19 @@ use hs_tokens::Terminal;
 use sqlite_items::Items;
 use std::alloc::Global;
 
-/// A tree that is a head and items, such as `btype {"->" btype}`: what of its reader is its own.
+/// A production of trees that are a head and items, such as `btype {"->" btype}`: what of its reader is its own.
 pub trait Chained: Sized {
+    type Tree;
+
     type Head: Drop;
 
     type Item: Drop;
     /// What bounds such a tree: its depth, or how many items it may have.
     type Limit: Copy;
 
-    ghost chain: { Self.Limit → Chain Terminal Self Self.Head Self.Item };
+    ghost chain: { Self.Limit → Chain Terminal Self.Tree Self.Head Self.Item };
 
-    ghost depth: { Self → ℕ };
+    ghost depth: { Self.Tree → ℕ };
 
     /// Whether an item begins here.
     fn begins_item(tokens: &[Terminal]) -> bool
@@ -39,7 +41,7 @@ pub trait Chained: Sized {
         ensures { deep ≡ max ((chain limit).head_depth head.now) (deepest (map (chain limit).item_depth items.now)) → (IsTrue result ↔ (chain limit).Room head.now items.now) };
 
     /// The tree.
-    fn make(head: Self::Head, items: Items<Self::Item>) -> Self
+    fn make(head: Self::Head, items: Items<Self::Item>) -> Self::Tree
         ensures { (limit : Self.Limit) → result ≡ (chain limit).make head items };
 
     /// The depth of a tree with so many items, the deepest part being so deep.
@@ -58,7 +60,7 @@ pub fn read_chain<'a, C: Chained, F: Fn(&'a [Terminal], usize) -> Result<Read<'a
     limit: C::Limit,
     head: Read<'a, C::Head>,
     item: F,
-) -> Result<Read<'a, C>, Fault>
+) -> Result<Read<'a, C::Tree>, Fault>
     requires head { Has (head_sort (C.chain limit)) tokens.now head }
     requires may { (here : _) (n : ℕ) → n + 1 < 2 ^ 64 → n + length here.now < length tokens.now → begins (C.chain limit).starter here.now ≡ true → F.pre item here n }
     requires says { (here : _) (n : ℕ) (r : _) → F.post item here n r → Answers (item_sort (C.chain limit) n) here.now r }

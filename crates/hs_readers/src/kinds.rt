@@ -18,6 +18,8 @@ use sqlite_items::{Boxed, Items};
 use std::alloc::Global;
 
 impl Chained for KindTree {
+    type Tree = KindTree;
+
     type Head = AKindTree;
 
     type Item = AKindTree;
@@ -83,7 +85,7 @@ pub fn read_kind<'a>(
     ensures { Answers (kind_sort limit) tokens.now result }
 {
     let head = read_akind(alloc, tokens, limit)?;
-    read_chain(
+    read_chain::<KindTree, _>(
         alloc,
         tokens,
         limit,

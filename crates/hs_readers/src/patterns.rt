@@ -26,6 +26,8 @@ use sqlite_items::{Boxed, Items};
 use std::alloc::Global;
 
 impl Chained for PatTree {
+    type Tree = PatTree;
+
     type Head = LPatTree;
 
     type Item = OpLPat;
@@ -62,6 +64,8 @@ impl Chained for PatTree {
 }
 
 impl Chained for (APatTree, Items<APatTree>) {
+    type Tree = (APatTree, Items<APatTree>);
+
     type Head = APatTree;
 
     type Item = APatTree;
@@ -97,6 +101,8 @@ impl Chained for (APatTree, Items<APatTree>) {
 }
 
 impl Chained for (PatTree, Items<PatTree>) {
+    type Tree = (PatTree, Items<PatTree>);
+
     type Head = PatTree;
 
     type Item = PatTree;
@@ -136,7 +142,7 @@ pub fn read_pat<'a>(
     ensures { Answers (pat_sort limit) tokens.now result }
 {
     let head = read_lpat(alloc, tokens, limit)?;
-    read_chain(
+    read_chain::<PatTree, _>(
         alloc,
         tokens,
         limit,
@@ -239,7 +245,7 @@ pub fn read_apats<'a>(
     ensures { Answers (apats_sort limit) tokens.now result }
 {
     let head = read_apat(alloc, tokens, limit)?;
-    read_chain(
+    read_chain::<(APatTree, Items<APatTree>), _>(
         alloc,
         tokens,
         limit,
@@ -510,7 +516,7 @@ fn read_pats<'a>(
 {
     let head = read_pat(alloc, tokens, limit)?;
     let parts = PartsLimit { most, depth: limit };
-    read_chain(
+    read_chain::<(PatTree, Items<PatTree>), _>(
         alloc,
         tokens,
         parts,

@@ -24,6 +24,8 @@ use sqlite_items::{Boxed, Items};
 use std::alloc::Global;
 
 impl Chained for TypeTree {
+    type Tree = TypeTree;
+
     type Head = BTypeTree;
 
     type Item = BTypeTree;
@@ -65,6 +67,8 @@ impl Chained for TypeTree {
 }
 
 impl Chained for BTypeTree {
+    type Tree = BTypeTree;
+
     type Head = ATypeTree;
 
     type Item = ATypeTree;
@@ -103,6 +107,8 @@ impl Chained for BTypeTree {
 }
 
 impl Chained for (TypeTree, Items<TypeTree>) {
+    type Tree = (TypeTree, Items<TypeTree>);
+
     type Head = TypeTree;
 
     type Item = TypeTree;
@@ -147,7 +153,7 @@ pub fn read_type<'a>(
     ensures { Answers (type_sort limit) tokens.now result }
 {
     let head = read_btype(alloc, tokens, limit)?;
-    read_chain(
+    read_chain::<TypeTree, _>(
         alloc,
         tokens,
         limit,
@@ -189,7 +195,7 @@ pub fn read_btype<'a>(
     ensures { Answers (btype_sort limit) tokens.now result }
 {
     let head = read_atype(alloc, tokens, limit)?;
-    read_chain(
+    read_chain::<BTypeTree, _>(
         alloc,
         tokens,
         limit,
@@ -339,7 +345,7 @@ fn read_parts<'a>(
     ensures { Answers (parts_sort limit) tokens.now result }
 {
     let head = read_type(alloc, tokens, limit)?;
-    read_chain(
+    read_chain::<(TypeTree, Items<TypeTree>), _>(
         alloc,
         tokens,
         limit,

@@ -1,0 +1,6 @@
+pub mod HitLemmas
+pub mod CombinedLemmas
+pub mod BlockLayerLemmas
+pub mod ItemLayerLemmas
+pub mod GuardLemmas
+pub mod BodyLemmas

@@ -1,0 +1,5 @@
+pub mod ListLemmas
+pub mod LedLemmas
+pub mod WordLemmas
+pub mod OpeningLemmas
+pub mod BracketLemmas
