@@ -13,10 +13,12 @@ use Rattle.bp_base.specs.declared.ty.Ty.TheBlock.{more_of-Ty, end_of-Ty}
 use Rattle.hs_core.specs.declared.tree.Pat.{Pat}
 use Rattle.hs_core.specs.declared.tree.Pat.TheVariants.{PCon}
 use Rattle.type_terms.specs.Terms.{var, con, app, applied, occurs_in}
-use Rattle.hs_core.specs.Types.{KindTerm, star, arrow, TypeTerm, TypeAssignment, any, functions, count, kind_term, type_term}
+use Rattle.hs_core.specs.Types.{KindTerm, star, arrow, TypeTerm, TypeAssignment, any, functions, count, kind_term}
+use Rattle.hs_core.specs.Types.{type_term}
 use Rattle.hs_core.specs.Kinds.{HasKind, AreLeast, kind_at}
 use Rattle.hs_core.specs.Schemes.{TypeScheme, IsInstance, IsDeclared, Bound}
-use Rattle.hs_core.specs.Globals.{NameMeaning, type_name, synonym_name, value_name, constructor_name, Constructor, Globals, plain_names, type_in}
+use Rattle.hs_core.specs.Globals.{NameMeaning, type_name, synonym_name, value_name, constructor_name, Constructor}
+use Rattle.hs_core.specs.Globals.{Globals, plain_names, type_in}
 use Rattle.hs_core.specs.Globals.{HasConstructor}
 use Rattle.hs_core.specs.Typing.{BindEach}
 use Rattle.type_unify.specs.Types.{Plain}
@@ -76,7 +78,8 @@ module _ (G : Globals) where
       → HasKind (plain_names G) (kind_at ks) (type_term ty) k → IsNoted G ty
       → ((i : ℕ) → occurs_in i (type_term ty) ≡ true → i < length ks)
       → IsForm G (old ++ ks) (instance ks (length old) ty) k
-  instance-form old ks (Var i) k h n v = slice_get-behind old ks i ∙ kind_at-some ks i (v i (eq-eqb i i refl)) ∙ ap Some h
+  instance-form old ks (Var i) k h n v = slice_get-behind old ks i ∙ kind_at-some ks i (v i (eq-eqb i i refl))
+      ∙ ap Some h
   instance-form old ks (Con m j) k h n v = h
   instance-form old ks (App' s (more_of-Ty f end_of-Ty) z (more_of-Ty a end_of-Ty)) k h n v = (
     h.0,
@@ -228,7 +231,8 @@ module _ (G : Globals) where
         ∙ slice_get-range choice 0 (length ks) w l)
         ∙ ap choice (zero-plus w)) in
         let read : map h.types parts ≡ t.3 =
-        ap (λ n. map h.types (range_with_len (length outer.kinds) n)) (sym many) ∙ unknowns_read outer.kinds t.3 middle.types in
+        ap (λ n. map h.types (range_with_len (length outer.kinds) n)) (sym many)
+        ∙ unknowns_read outer.kinds t.3 middle.types in
         let keeps : h.types v ≡ g.types v =
         let l = slice_get_within state.kinds v star s in
         sym (spliced-front outer.kinds t.3 middle.types v (omega (arith, below, l)))

@@ -1,5 +1,6 @@
 -- What the heads of patterns do, and patterns put together from their parts.
-use Rattle.std.proofs.Common.{◌≡◌, refl, sym, ap, subst, ◌∙◌, inl, inr, ℕ, zero, suc, ◌≤◌, ◌+◌, List, [], ◌∷◌, ◌++◌, map}
+use Rattle.std.proofs.Common.{◌≡◌, refl, sym, ap, subst, ◌∙◌, inl, inr, ℕ, zero, suc, ◌≤◌, ◌+◌, List, [], ◌∷◌, ◌++◌}
+use Rattle.std.proofs.Common.{map}
 use Rattle.std.proofs.lemmas.List.{append-nil, append_assoc, map-append}
 use Rattle.std.specs.Prelude.{length, replicate, ◌≢◌}
 use Rattle.std.specs.List.{range_with_len}
@@ -25,7 +26,8 @@ use Rattle.infer_patterns.specs.Patterns.{PatternInferred, PatternRefused, Patte
 use Rattle.infer_patterns.specs.Patterns.{PatternsRefused, LiteralEntered, LiteralRefused, TupleEntered, TupleRefused}
 use Rattle.infer_patterns.specs.Patterns.{ListEntered, ListRefused}
 use Rattle.infer_patterns.specs.declared.names.Declared.{Declared}
-use Rattle.infer_patterns.proofs.PatternLemmas.{variable_imposes, wild_imposes, literal_imposes, literal_none, as_imposes}
+use Rattle.infer_patterns.proofs.PatternLemmas.{variable_imposes, wild_imposes, literal_imposes, literal_none}
+use Rattle.infer_patterns.proofs.PatternLemmas.{as_imposes}
 use Rattle.infer_patterns.proofs.PatternLemmas.{as_none, lazy_imposes, lazy_none}
 use Rattle.infer_patterns.proofs.PartsLemmas.{tuple_imposes, tuple_none, tuple_parts_none, tuple_count, item_stars}
 use Rattle.infer_patterns.proofs.PartsLemmas.{list_imposes, list_none, list_items_none}
@@ -173,7 +175,8 @@ pub as_inferred : (names : List Declared) (before middle after : List Binder) (o
     → PatternInferred names middle after old new p v → PatternInferred names before after old new (PAs x p) v
 as_inferred names before middle after old new x p v e h G K r s = let q = h G K r s in record {
   binders = record { name = x; unknown = v } ∷ q.binders;
-  pushed = q.pushed ∙ ap (λ l. l ++ q.binders) e ∙ append_assoc before (record { name = x; unknown = v } ∷ []) q.binders;
+  pushed = q.pushed ∙ ap (λ l. l ++ q.binders) e ∙ append_assoc before
+      (record { name = x; unknown = v } ∷ []) q.binders;
   imposes = as_imposes G old new x p v q.binders s q.imposes;
 }
 
@@ -202,7 +205,12 @@ tuple_inferred names before after old middle new ps is v e h rows G K r s =
     let q = subst (λ z. PatternsInferred names before after middle new ps z) e rows G K m.ready
     (subst (λ z. AreStars z (range_with_len (length old.kinds) (length ps))) (sym m.same)
     (new_stars old.kinds (length ps))) in
-    record { binders = q.binders; pushed = q.pushed; imposes = tuple_imposes G old middle new ps v q.binders r s m q.imposes }
+    record {
+      binders = q.binders;
+      pushed = q.pushed;
+      imposes = tuple_imposes G old middle new ps v q.binders r s m
+          q.imposes;
+    }
 
 pub tuple_head_refused : (names : List Declared) (old : State) (ps : List Pat) (v : ℕ)
     → TupleRefused old v (length ps) → PatternRefused names old (PTuple ps) v

@@ -1,5 +1,6 @@
 -- Searching names, and declared types as terms.
-use Rattle.std.proofs.Common.{◌≡◌, refl, sym, ap, ap₂, subst, ◌∙◌, inl, inr, ℕ, zero, suc, ◌+◌, ◌<◌, ◌≤◌, List, [], ◌∷◌, ◌++◌, take, drop, get_or, map, arith}
+use Rattle.std.proofs.Common.{◌≡◌, refl, sym, ap, ap₂, subst, ◌∙◌, inl, inr, ℕ, zero, suc, ◌+◌, ◌<◌, ◌≤◌, List, []}
+use Rattle.std.proofs.Common.{◌∷◌, ◌++◌, take, drop, get_or, map, arith}
 use Rattle.std.proofs.lemmas.List.{take_more, take_all, take-append-drop, drop_more}
 use Rattle.std.specs.Prelude.{◌≢◌, length, IsTrue, false}
 use Rattle.bp_base.proofs.SetLemmas.{among-either, among-middle}
@@ -69,7 +70,8 @@ instance_app ks first f a = refl
 
 pub result_star : (ks : List KindTerm) (ty f a g : Ty) (k : KindTerm) → ty ≡ App f a → g ≡ f → k ≡ noted_kind ks g
     → result_kind k ≡ noted_kind ks ty
-result_star ks ty f a g k w e h = ap result_kind (h ∙ ap (noted_kind ks) e) ∙ sym (ap (noted_kind ks) w ∙ noted_app ks f a)
+result_star ks ty f a g k w e h = ap result_kind (h ∙ ap (noted_kind ks) e) ∙ sym (ap (noted_kind ks) w
+    ∙ noted_app ks f a)
 
 pub instance_made : (ks : List KindTerm) (first : ℕ) (ty f a g b : Ty) (t u c : Plain) → ty ≡ App f a → g ≡ f → b ≡ a
     → c ≡ code (argument_kind (noted_kind ks g)) → t ≡ instance ks first g → u ≡ instance ks first b

@@ -64,7 +64,8 @@ module _ (G : Globals) where
       ∙ unknowns_read state.kinds us g.types
 
   tuple_gives : (state : State) (ps : List Pat) (v : ℕ) → slice_get state.kinds v ≡ Some star
-      → (g : Guess) (xs : List Bound) → Meets G g state → both (equal (var v) (tuple_type state ps)) (tuple state ps) g xs
+      → (g : Guess) (xs : List Bound) → Meets G g state → both (equal (var v) (tuple_type state ps))
+      (tuple state ps) g xs
       → binds G (PTuple ps) v g xs
   tuple_gives state ps v s g xs m t =
       let q = behind_equal (var v) (tuple_type state ps) (tuple state ps) g xs t in (
@@ -109,7 +110,8 @@ module _ (G : Globals) where
       (imposed_equation G (with_unknowns state (stars ps)) middle (var v) (tuple_type state ps) e) h))
 
   pub tuple_none : (state : State) (ps : List Pat) (v : ℕ) → IsReady G state → slice_get state.kinds v ≡ Some star
-      → NotEqual G (with_unknowns state (stars ps)) (var v) (tuple_type state ps) → HasNone G (binds G (PTuple ps) v) state
+      → NotEqual G (with_unknowns state (stars ps)) (var v) (tuple_type state ps)
+      → HasNone G (binds G (PTuple ps) v) state
   tuple_none state ps v r s n =
       none_so G (some G state.kinds (stars ps) (both (equal (var v) (tuple_type state ps)) (tuple state ps)))
       (binds G (PTuple ps) v) state (λ g xs m t. tuple_takes state ps v s g xs m t)

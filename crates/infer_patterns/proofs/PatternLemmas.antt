@@ -102,7 +102,8 @@ module _ (G : Globals) where
       (λ g bs m t. (proper state g v m s, t)) (λ g bs m t. t.1) (imposed_nothing G state r)
 
   -- a literal of a type
-  pub literal_imposes : (old new : State) (p : Pat) (v : ℕ) (t : Plain) (u : TypeTerm) → slice_get old.kinds v ≡ Some star
+  pub literal_imposes : (old new : State) (p : Pat) (v : ℕ) (t : Plain) (u : TypeTerm)
+      → slice_get old.kinds v ≡ Some star
       → ((kinds : Kinds) (w : TypeTerm) (bs : List Bound) → Binds G any kinds p w bs
       ↔ IsProperType G any kinds w × (w ≡ u) × (bs ≡ []))
       → ((g : TypeAssignment) → value g t ≡ u) → Equated G old new (var v) t

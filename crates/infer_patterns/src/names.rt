@@ -5,7 +5,8 @@ ghost use Rattle.infer_patterns.specs.Names.{IsUnknownName};
 
 use bp_base::{Kind, OrigName, Ty, same_orig_name};
 
-/// The declared type of a name: its variables are numbered from 0 and have these kinds. A constructor has a number of fields.
+/// The declared type of a name: its variables are numbered from 0 and have these kinds. A constructor has a number of
+/// fields.
 #[derive(Debug, Drop)]
 pub struct Declared {
     pub name: OrigName,

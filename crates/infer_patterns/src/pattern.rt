@@ -129,9 +129,9 @@ fn enter_con(
     Ok(parts)
 }
 
-/// What it means that a pattern has the type of the unknown `wanted`: the names that it binds are pushed with the unknowns of their
-/// types, in order. NoTyping comes exactly where no guess that meets the equations gives the pattern that type. Recursion goes no
-/// deeper than the pattern.
+/// Makes a pattern have the type of the unknown `wanted`: the names that it binds are pushed with the unknowns of their
+/// types, in order. NoTyping comes exactly where no guess that meets the equations gives the pattern that type.
+/// Recursion goes no deeper than the pattern.
 #[cycle(pat)]
 pub fn infer_pat(
     alloc: Global,

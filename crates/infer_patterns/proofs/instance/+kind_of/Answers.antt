@@ -26,6 +26,7 @@ returns-in-Star t c =
 pub returns : goal.returns
 returns t c = IfOk-then c.copied-in-Arrow.result
     (λ k e. ap kind_term (e ∙ c.get-in-Arrow.ensures)
-    ∙ sym (ap (λ j. result_kind (kind_term j)) c.in-Arrow.is ∙ ap result_kind (kind_arrow c.in-Arrow.from c.in-Arrow.to))
+    ∙ sym (ap (λ j. result_kind (kind_term j)) c.in-Arrow.is ∙ ap result_kind
+    (kind_arrow c.in-Arrow.from c.in-Arrow.to))
     ∙ result_star (map kind_term c.args.kinds.now) c.args.ty.now c.in-App.fun c.in-App.arg c.get.result.now _
     c.in-App.is c.get.ensures c.in_ok-kind_of-in-App.ensures) c.copied-in-Arrow.ensures

@@ -12,13 +12,15 @@ use Rattle.infer_patterns.proofs.pattern.+pat.Goals as goal
 
 pub infer_pat-returns-in_err-parts-in-PCon-clause-none : goal.infer_pat-returns-in_err-parts-in-PCon-clause-none
 infer_pat-returns-in_err-parts-in-PCon-clause-none t c =
-    let p = err_from_is_err_and c.from_residual-in_err-parts-in-PCon.result c.from_residual-in_err-parts-in-PCon.ensures.1 in
+    let p = err_from_is_err_and c.from_residual-in_err-parts-in-PCon.result
+    c.from_residual-in_err-parts-in-PCon.ensures.1 in
     rw (p.1, p.2) (λ z. subst (Refused c.args.names.now (state_of c.args.state.now) c.args.wanted) (sym c.in-PCon.is)
     (c.in_err-parts-in-PCon.ensures.none z c.in-PCon.args (sym c.len.ensures)))
 
 pub infer_pat-returns-in_err-ids-in-PTuple-clause-none : goal.infer_pat-returns-in_err-ids-in-PTuple-clause-none
 infer_pat-returns-in_err-ids-in-PTuple-clause-none t c =
-    let p = err_from_is_err_and c.from_residual-in_err-ids-in-PTuple.result c.from_residual-in_err-ids-in-PTuple.ensures.1 in
+    let p = err_from_is_err_and c.from_residual-in_err-ids-in-PTuple.result
+    c.from_residual-in_err-ids-in-PTuple.ensures.1 in
     rw (p.1, p.2) (λ z. subst (Refused c.args.names.now (state_of c.args.state.now) c.args.wanted) (sym c.in-PTuple.is)
     (tuple_head_refused c.args.names.now (state_of c.args.state.now) c.in-PTuple.parts c.args.wanted
     (subst (λ k. TupleRefused (state_of c.args.state.now) c.args.wanted k) c.len-in-PTuple.ensures
@@ -26,7 +28,8 @@ infer_pat-returns-in_err-ids-in-PTuple-clause-none t c =
 
 pub infer_pat-returns-in_err-ids-in-PList-clause-none : goal.infer_pat-returns-in_err-ids-in-PList-clause-none
 infer_pat-returns-in_err-ids-in-PList-clause-none t c =
-    let p = err_from_is_err_and c.from_residual-in_err-ids-in-PList.result c.from_residual-in_err-ids-in-PList.ensures.1 in
+    let p = err_from_is_err_and c.from_residual-in_err-ids-in-PList.result
+    c.from_residual-in_err-ids-in-PList.ensures.1 in
     rw (p.1, p.2) (λ z. subst (Refused c.args.names.now (state_of c.args.state.now) c.args.wanted) (sym c.in-PList.is)
     (list_head_refused c.args.names.now (state_of c.args.state.now) c.in-PList.parts c.args.wanted
     (c.in_err-ids-in-PList.ensures.none z)))
@@ -174,7 +177,8 @@ infer_pats-loop-index-preserved t c = row_next c.args.names.now c.args.pats.now 
     (state_of c.args.state.now) (state_of c.loop-index.state) (state_of c.infer_pat.new.state) c.loop-index-test.true
     c.requires c.loop-index.invariant
     (subst (λ p. PatternInferred c.args.names.now c.loop-index.binders.items c.infer_pat.new.binders.items
-    (state_of c.loop-index.state) (state_of c.infer_pat.new.state) p (get_or c.args.wanted.now c.loop-index.index 0)) c.index-pats-index.is
+    (state_of c.loop-index.state) (state_of c.infer_pat.new.state) p
+    (get_or c.args.wanted.now c.loop-index.index 0)) c.index-pats-index.is
     c.in_ok-infer_pat.ensures.ok)
 
 pub infer_pats-returns-in_err-infer_pat-clause-none : goal.infer_pats-returns-in_err-infer_pat-clause-none

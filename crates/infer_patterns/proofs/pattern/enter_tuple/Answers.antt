@@ -21,5 +21,6 @@ returns-clause-ok c = tuple_head_ok c.args.state.now c.stars.new.self (state_of 
     c.as_slice.ensures.value c.in_ok-own.ensures c.in_ok-ty.ensures c.in_ok-equate.ensures.ok
 
 pub returns-clause-many : goal.returns-clause-many
-returns-clause-many c = ap length c.in_ok-parts.ensures.ids ∙ length-range_with_len (length c.args.state.now.kinds.items)
+returns-clause-many c = ap length c.in_ok-parts.ensures.ids ∙ length-range_with_len
+    (length c.args.state.now.kinds.items)
     c.args.many
