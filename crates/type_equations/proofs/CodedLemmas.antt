@@ -180,7 +180,8 @@ type_of-applied G d ks s (con (named n j)) k h =
 type_of-applied G d ks s (app (var i) a) k h = absurd h
 type_of-applied G d ks s (app (con c) a) k h = absurd h
 type_of-applied G d ks s (app (app c f) a) k (j, e, hf, ha) =
-    let p : decided (applied s c) ≡ j = ap (λ z. decided (applied s z)) e ∙ ap decided (applied-code s j) ∙ decided-code j in
+    let p : decided (applied s c) ≡ j = ap (λ z. decided (applied s z)) e ∙ ap decided (applied-code s j)
+    ∙ decided-code j in
     rw p (ap₂ app (type_of-applied G d ks s f (arrow j k) hf) (type_of-applied G d ks s a j ha))
 
 -- types that an assignment makes equal are read back as one

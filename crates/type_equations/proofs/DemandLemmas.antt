@@ -15,7 +15,8 @@ use Rattle.kind_check.proofs.WalkLemmas.{below-of-test, EveryBound-more}
 use Rattle.type_equations.specs.Coded.{IsForm, type_code, type_of, kind_or_star}
 use Rattle.type_equations.specs.States.{State, Guess, coded, Meets, read_back, IsReady, Equated, NotEqual}
 use Rattle.type_equations.specs.declared.equations.Binder.{Binder}
-use Rattle.type_equations.specs.Demands.{Demand, typed_names, AllStar, Agree, Imposes, HasNone, IsLocal, nothing, equal, both}
+use Rattle.type_equations.specs.Demands.{Demand, typed_names, AllStar, Agree, Imposes, HasNone, IsLocal, nothing}
+use Rattle.type_equations.specs.Demands.{equal, both}
 use Rattle.type_equations.specs.Demands.{spliced, with_types, HaveKinds, some, with_unknowns}
 use Rattle.type_equations.proofs.CodedLemmas.{type_of-has}
 
@@ -53,12 +54,14 @@ pub stars-front : (ks js : List KindTerm) (bs : List Binder) → AllStar ks bs �
 stars-front ks js [] h = tt
 stars-front ks js (b ∷ bs) h = (slice_get-front ks js b.unknown star h.0, stars-front ks js bs h.1)
 
-pub stars-append : (ks : List KindTerm) (front bs : List Binder) → AllStar ks front → AllStar ks bs → AllStar ks (front ++ bs)
+pub stars-append : (ks : List KindTerm) (front bs : List Binder) → AllStar ks front → AllStar ks bs
+    → AllStar ks (front ++ bs)
 stars-append ks [] bs p q = q
 stars-append ks (a ∷ front) bs p q = (p.0, stars-append ks front bs p.1 q)
 
 pub grows-length : (ks js more : List KindTerm) → js ≡ ks ++ more → length ks ≤ length js
-grows-length ks js more e = let p : length js ≡ length ks + length more = ap length e ∙ length-append ks more in omega (arith, p)
+grows-length ks js more e = let p : length js ≡ length ks + length more = ap length e
+    ∙ length-append ks more in omega (arith, p)
 
 -- a type stays of its kind where there are more unknowns
 pub form-front : (G : Globals) (ks js : List KindTerm) (t : Plain) (k : KindTerm) → IsForm G ks t k
@@ -142,7 +145,8 @@ module _ (G : Globals) where
     decides = λ kinds rich s o. record {
       solves = solves-below (length state.kinds) (coded G (read_back G kinds rich state.kinds s))
           (coded G (read_back G kinds rich (state.kinds ++ js) s)) state.bindings
-          (λ i l. ap (λ m. type_code G kinds (type_of G (λ j. (rich j).0) (kind_or_star m) (s i))) (slice_get-grown state.kinds js i l)) r.below
+          (λ i l. ap (λ m. type_code G kinds (type_of G (λ j. (rich j).0) (kind_or_star m) (s i)))
+          (slice_get-grown state.kinds js i l)) r.below
           (r.decides kinds rich s o).solves;
       kinded = λ i k e. subst
           (λ z. HasKind (plain_names G) kinds (type_of G (λ j. (rich j).0) (kind_or_star z) (s i)) k) (sym e)

@@ -1,4 +1,5 @@
--- Types with unknowns of kinds, as types of unification: an application notes the kind of its argument, so that types of
+-- Types with unknowns of kinds, as types of unification: an application notes the kind of its argument, so that types
+-- of
 -- different kinds are never made equal. `Maybe t` is the application of `Maybe` at `*` to t.
 use Rattle.std.specs.Prelude.{◌≡◌, Bool, true, false, ◌&&◌, List, Option, Some, None, slice_get, if◌then◌else◌}
 use Rattle.bp_base.specs.declared.ty.Kind.TheVariants.{Star}

@@ -27,7 +27,8 @@ pub record Agree (n : ℕ) (g h : Guess) : Type 0 where
   pub types : (i : ℕ) → i < n → g.types i ≡ h.types i
 
 -- A part of a tree turns equations into new ones, by new unknowns: each guess that meets the new ones gives what is
--- promised, and each that meets the old ones and has what is asked can be changed at new unknowns so that it meets the new
+-- promised, and each that meets the old ones and has what is asked can be changed at new unknowns so that it meets
+-- the new
 -- ones, with the same types for the names that are bound.
 pub record Imposes (G : Globals) (gives takes : Demand) (binders : List Binder) (old new : State) : Type 0 where
   pub ready : IsReady G new

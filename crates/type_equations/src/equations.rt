@@ -76,8 +76,8 @@ impl Equations {
         Ok(ids)
     }
 
-    /// Makes two types of one kind equal. NoTyping comes exactly where no guess that meets the equations makes them equal; the
-    /// equations are as before after every error.
+    /// Makes two types of one kind equal. NoTyping comes exactly where no guess that meets the equations makes them
+    /// equal.
     pub fn equate(&mut self, alloc: Global, s: &Term, t: &Term) -> Result<(), Failure>
         ensures ok { OnOk result (Equates (state_of self.old) (state_of self.new) s.now t.now) }
         ensures none { IfErr result (λ e. e ≡ Failure.NoTyping → Refuses (state_of self.old) s.now t.now) }

@@ -1,4 +1,5 @@
-use Rattle.type_meaning.proofs.MeaningLemmas.{typed_expressions_are_meant, typed_declarations_are_meant, typed_patterns_are_meant}
+use Rattle.type_meaning.proofs.MeaningLemmas.{typed_expressions_are_meant, typed_declarations_are_meant}
+use Rattle.type_meaning.proofs.MeaningLemmas.{typed_patterns_are_meant}
 use Rattle.type_meaning.proofs.laws.typings_are_meant.Goals as goal
 
 pub returns-clause-expressions : goal.returns-clause-expressions

@@ -1,0 +1,9 @@
+pub mod PatternLemmas
+pub mod PartsLemmas
+pub mod EnterLemmas
+pub mod RowLemmas
+pub mod ConLemmas
+pub mod ConEnterLemmas
+pub mod ArmLemmas
+pub mod NameLemmas
+pub mod HeadLemmas

@@ -1,0 +1,10 @@
+//! Inference of patterns: the types of the names that they bind.
+#![tactic(auto)]
+
+mod instance;
+mod names;
+mod pattern;
+
+pub use instance::instance_with;
+pub use names::{Declared, find};
+pub use pattern::{infer_pat, infer_pats};
