@@ -123,7 +123,7 @@ module _ (limit : Option ℕ) (ts : Ts) (x : InfixTree) (here : Ts) (deep ops : 
           full (within_less limit _ _ (omega (arith, m.total, le)) good.1)
 
   -- how an operator is followed by a tree
-  abbrev Completes : Bool → Type 0
+  abbrev pub Completes : Bool → Type 0
   Completes lone = (op : QOpTree) → (more : Ts) × (l : Links) × (within (links lone) limit).Good l
       × (spelling_infix x ++ (qop_tokens op ++ more) ≡ (links lone).tokens l)
 

@@ -1,2 +1,4 @@
 pub mod QOpReturnLemmas
 pub mod SignedLemmas
+pub mod LinksLemmas
+pub mod FrontAnswerLemmas

@@ -1,2 +1,4 @@
 pub mod Leaves
 pub mod SignedAnswers
+pub mod LinkAnswers
+pub mod FrontAnswers

@@ -1,0 +1,65 @@
+//! Expressions and the types behind them (Haskell 2010 Report, sections 3 and 3.16).
+ghost use Rattle.std.specs.Prelude.{◌≡◌, ◌∷◌, ◌+◌, ◌<◌, ◌^◌, MatchOption, Bool, false, None};
+ghost use Rattle.hs_forms.specs.Reading.{begins};
+ghost use Rattle.hs_tokens.specs.declared.terminal.Terminal.TheVariants.{DoubleColon};
+ghost use Rattle.hs_modules.specs.Formed.{facts_of_infix};
+ghost use Rattle.hs_expression_forms.specs.Trees.{Took};
+ghost use Rattle.hs_expression_forms.specs.Expressions.{is_double_colon};
+ghost use Rattle.hs_expression_forms.specs.Links.{links};
+ghost use Rattle.hs_expressions.specs.FrontAnswers.{ExpAnswers};
+
+use crate::leaf::after_double_colon;
+use crate::links::ends_open;
+use hs_forms::Fault;
+use hs_modules::{ExpTree, InfixTree};
+use hs_readers::{Read, allows, lower, read_type};
+use hs_tokens::Terminal;
+use std::alloc::Global;
+
+/// Whether nothing of its own may stand behind a chain: its last operand takes all.
+pub fn chain_is_open(chain: &InfixTree) -> bool
+    ensures { result ≡ (facts_of_infix chain.now).is_open }
+{
+    match chain.rest.as_slice().last() {
+        Some(link) => ends_open(&link.operand),
+        None => ends_open(&chain.first),
+    }
+}
+
+/// What stands after the `::` of a chain, if it is annotated.
+fn after_colons<'a>(chain: &InfixTree, tokens: &'a [Terminal]) -> Option<&'a [Terminal]>
+    ensures { MatchOption result ((facts_of_infix chain.now).is_open ≡ false → begins is_double_colon tokens.now ≡ false) (λ rest. ((facts_of_infix chain.now).is_open ≡ false) × (tokens.now ≡ DoubleColon ∷ rest.now)) }
+{
+    if chain_is_open(chain) {
+        None
+    } else {
+        after_double_colon(tokens)
+    }
+}
+
+/// A chain with the type behind it, if one stands there.
+pub fn read_annotation(
+    alloc: Global,
+    chain: Read<'_, InfixTree>,
+    limit: Option<usize>,
+) -> Result<Read<'_, ExpTree>, Fault>
+    requires { chain.depth + 1 < 2 ^ 64 }
+    ensures { (lone : Bool) (ts : _) → Took (links lone) limit ts (chain.entry.tree, None) chain.entry.rest.now chain.entry.depth → ExpAnswers lone limit ts result }
+{
+    let Some(next) = after_colons(&chain.tree, chain.rest) else {
+        return Ok(Read {
+            tree: ExpTree::Infix(chain.tree),
+            rest: chain.rest,
+            depth: chain.depth,
+        });
+    };
+    if !allows(limit, chain.depth + 1) {
+        return Err(Fault::At(chain.rest.len()));
+    }
+    let ty = read_type(alloc, next, lower(limit, 1))?;
+    Ok(Read {
+        tree: ExpTree::Annotated(chain.tree, ty.tree),
+        rest: ty.rest,
+        depth: chain.depth.max(ty.depth) + 1,
+    })
+}
