@@ -12,10 +12,6 @@ use Rattle.cabal_component.specs.declared.component.Component.{Component}
 use Rattle.cabal_component.proofs.RefusedLemmas.{block_first}
 use Rattle.plain_check.specs.Asked.{or_head, asking_block, asking_blocks}
 
-some_least : (n : ℕ) (o : Option ℕ) → sooner (Some n) o ≡ None → ⊥
-some_least n None e = cc
-some_least n (Some m) e = cc
-
 abbrev pub or_else : ℕ → Option ℕ → Option ℕ
 or_else head None = Some head
 or_else head (Some line) = Some line
