@@ -396,6 +396,26 @@ field_none names vars ts us t old mid n m l p never =
 
 -- ---- the order on kinds: one list of kinds is least at most
 
+pub Below-both : (j k : KindTerm) → Below j k → Below k j → j ≡ k
+Below-both star star p q = refl
+Below-both star (arrow a b) p q = absurd q
+Below-both (arrow a b) star p q = absurd p
+Below-both (arrow a b) (arrow c d) p q = ap₂ arrow (Below-both a c p.0 q.0) (Below-both b d p.1 q.1)
+
+pub AllBelow-both : (js ks : List KindTerm) → AllBelow js ks → AllBelow ks js → js ≡ ks
+AllBelow-both [] ks p q = sym p
+AllBelow-both (j ∷ js) [] p q = q
+AllBelow-both (j ∷ js) (k ∷ ks) p q =
+    ap₂ (λ x xs. x ∷ xs)
+    (Below-both j k (subst (Below j) (sym (head_same _ _ _ _ p.2)) p.3)
+    (subst (Below k) (sym (head_same _ _ _ _ q.2)) q.3))
+    (AllBelow-both js ks (subst (AllBelow js) (sym (tail_same _ _ _ _ p.2)) p.4)
+    (subst (AllBelow ks) (sym (tail_same _ _ _ _ q.2)) q.4))
+
+pub least_is_one : (names : NameKinds) (ds : List TypeDecl) (js ks : List KindTerm) → AreLeastKinds names ds js
+    → AreLeastKinds names ds ks → js ≡ ks
+least_is_one names ds js ks p q = AllBelow-both js ks (p.least ks q.valid) (q.least js p.valid)
+
 -- ---- a head that can't be made equal to the declaration's own unknown
 
 pub data_head_none : (names : Guess → NameKinds) (d : TypeDecl) (ts : List TypeTerm) (i n : ℕ) (old : List Bound)
