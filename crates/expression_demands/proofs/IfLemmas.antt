@@ -94,7 +94,8 @@ module _ (G : Globals) (a b c : Exp) (env : List Binder) (v : ℕ) (state : Stat
       (both (meant_type G a env (length state.kinds)) (both (meant_type G b env v) (meant_type G c env v)))
       → Equated G (with_unknowns state (star ∷ [])) middle (var (length state.kinds)) plain_boolean
       → Imposes G (both (has_type G a env (length state.kinds)) (both (has_type G b env v) (has_type G c env v)))
-      (both (meant_type G a env (length state.kinds)) (both (meant_type G b env v) (meant_type G c env v))) [] middle new
+      (both (meant_type G a env (length state.kinds)) (both (meant_type G b env v)
+      (meant_type G c env v))) [] middle new
       → Imposes G (has_type G (If a b c) env v) (meant_type G (If a b c) env v) [] state new
   if_imposes middle new r n l e p = form_imposes G (has_type G (If a b c) env v) (meant_type G (If a b c) env v)
       (both (has_type G a env (length state.kinds)) (both (has_type G b env v) (has_type G c env v)))
