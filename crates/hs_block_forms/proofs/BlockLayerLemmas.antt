@@ -13,11 +13,13 @@ use Rattle.hs_trees.specs.Patterns.{Ts}
 use Rattle.hs_trees.specs.declared.patterns.PatTree.{PatTree}
 use Rattle.hs_modules.specs.Extents.{depth_of}
 use Rattle.hs_modules.specs.ExpressionExtents.{extent_algebra, extent_of_guard, extent_of_gd, extent_of_gda}
-use Rattle.hs_modules.specs.Tokens.{token_algebra, spelling_guard, spelling_exp, spelling_gd, spelling_gda, spelling_infix}
+use Rattle.hs_modules.specs.Tokens.{token_algebra, spelling_guard, spelling_exp, spelling_gd, spelling_gda}
+use Rattle.hs_modules.specs.Tokens.{spelling_infix}
 use Rattle.hs_modules.specs.Tokens.{spelling_rhs_body, spelling_alt_body}
 use Rattle.hs_modules.specs.Formed.{fact_algebra, good_of, last_of, facts_of_guard, facts_of_exp, facts_of_gd}
 use Rattle.hs_modules.specs.Formed.{facts_of_gda, facts_of_infix}
-use Rattle.hs_modules.specs.declared.expressions.AltBody.{AltBody, AltBody-F, out-AltBody, roll-AltBody, roll-out-AltBody}
+use Rattle.hs_modules.specs.declared.expressions.AltBody.{AltBody, AltBody-F, out-AltBody, roll-AltBody}
+use Rattle.hs_modules.specs.declared.expressions.AltBody.{roll-out-AltBody}
 use Rattle.hs_modules.specs.declared.expressions.AltBody.TheVariants as ab
 use Rattle.hs_modules.specs.declared.expressions.ExpTree.{ExpTree}
 use Rattle.hs_modules.specs.declared.expressions.GdTree.{GdTree, out-GdTree, roll-GdTree, roll-out-GdTree}
@@ -26,7 +28,8 @@ use Rattle.hs_modules.specs.declared.expressions.GuardTree.{GuardTree, GuardTree
 use Rattle.hs_modules.specs.declared.expressions.GuardTree.{roll-out-GuardTree}
 use Rattle.hs_modules.specs.declared.expressions.GuardTree.TheVariants as gt
 use Rattle.hs_modules.specs.declared.expressions.InfixTree.{InfixTree}
-use Rattle.hs_modules.specs.declared.expressions.RhsBody.{RhsBody, RhsBody-F, out-RhsBody, roll-RhsBody, roll-out-RhsBody}
+use Rattle.hs_modules.specs.declared.expressions.RhsBody.{RhsBody, RhsBody-F, out-RhsBody, roll-RhsBody}
+use Rattle.hs_modules.specs.declared.expressions.RhsBody.{roll-out-RhsBody}
 use Rattle.hs_modules.specs.declared.expressions.RhsBody.TheVariants as rb
 use Rattle.hs_modules.proofs.FoldingLemmas.{guard_folded, gd_folded, gda_folded, rhs_body_folded, alt_body_folded}
 use Rattle.hs_modules.proofs.PartDepthLemmas.{pat_depth_is}
@@ -270,7 +273,8 @@ alt_layer (AltBody-F.GuardedArrows first rest) = by_arrows (first, rest) (ab.rol
 pub alt_case : (x : AltBody) → AltCase x
 alt_case x = subst AltCase (roll-out-AltBody x) (alt_layer (out-AltBody x))
 
-pub equals_makes : Makes rhs_bodies (behind_token t.Equals (narrowed exps ends_body)) (λ e. rb.Equals e) 0 (begins is_equals)
+pub equals_makes : Makes rhs_bodies (behind_token t.Equals (narrowed exps ends_body)) (λ e. rb.Equals e) 0 (begins
+    is_equals)
 equals_makes = record {
   spelled = equals_spelled;
   formed = equals_is;
@@ -312,7 +316,8 @@ guarded_makes = record {
         ∙ ap (λ y. begins is_bar (spelling_rhs_body y ++ after)) is
         ∙ ap (λ l. begins is_bar (l ++ after)) (equals_spelled e)))
 
-pub arrow_makes : Makes alt_bodies (behind_token t.Arrow (narrowed exps ends_body)) (λ e. ab.Arrow e) 0 (begins is_arrow)
+pub arrow_makes : Makes alt_bodies (behind_token t.Arrow (narrowed exps ends_body)) (λ e. ab.Arrow e) 0 (begins
+    is_arrow)
 arrow_makes = record {
   spelled = arrow_spelled;
   formed = arrow_is;

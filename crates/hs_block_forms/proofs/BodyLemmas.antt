@@ -41,7 +41,8 @@ use Rattle.hs_expression_forms.proofs.RowLemmas.{exp_ends, exp_starts, least_exp
 use Rattle.hs_expression_forms.proofs.LinkFirstLemmas.{lowered_none}
 use Rattle.hs_operand_forms.proofs.LedLemmas.{front_failed, second_failed, both_took}
 use Rattle.hs_block_forms.specs.Combined.{Heads, narrowed, ended_if}
-use Rattle.hs_block_forms.specs.Blocks.{is_bar, is_equals, is_left_brace, is_where, is_semicolon, ends_body, ends_guarded}
+use Rattle.hs_block_forms.specs.Blocks.{is_bar, is_equals, is_left_brace, is_where, is_semicolon, ends_body}
+use Rattle.hs_block_forms.specs.Blocks.{ends_guarded}
 use Rattle.hs_block_forms.specs.Blocks.{ends_item, gds, gdas, rhs_bodies, alt_bodies, wheres, alt_slots, alt_items}
 use Rattle.hs_block_forms.specs.Blocks.{guard_lists, GuardList, guards_fit, gd_lists, gda_lists, rhs_parts, alt_parts}
 use Rattle.hs_block_forms.specs.Blocks.{rhss, alts, pat_alts}
@@ -50,10 +51,12 @@ use Rattle.hs_block_forms.proofs.CombinedLemmas.{ended_if_failed, ended_if_misse
 use Rattle.hs_block_forms.proofs.GuardLemmas.{equals_end, arrow_ends, guards_complete}
 use Rattle.hs_block_forms.proofs.BlockLayerLemmas.{gd_starts, gda_starts, gd_makes, gda_makes, make_gd, make_gda}
 use Rattle.hs_block_forms.proofs.BlockLayerLemmas.{equals_makes, guarded_makes, arrow_makes, arrows_makes, rhs_case}
-use Rattle.hs_block_forms.proofs.BlockLayerLemmas.{RhsCase, by_equals, by_guards, alt_case, AltCase, by_arrow, by_arrows}
+use Rattle.hs_block_forms.proofs.BlockLayerLemmas.{RhsCase, by_equals, by_guards, alt_case, AltCase, by_arrow}
+use Rattle.hs_block_forms.proofs.BlockLayerLemmas.{by_arrows}
 use Rattle.hs_block_forms.proofs.BlockLayerLemmas.{equals_spelled, equals_is, equals_deep, guarded_spelled}
 use Rattle.hs_block_forms.proofs.BlockLayerLemmas.{arrow_spelled, arrow_is, arrow_deep, arrows_spelled}
-use Rattle.hs_block_forms.proofs.ItemLayerLemmas.{from_rhs, into_rhs, rhs_back, rhs_embeds, from_alt, into_alt, alt_back}
+use Rattle.hs_block_forms.proofs.ItemLayerLemmas.{from_rhs, into_rhs, rhs_back, rhs_embeds, from_alt, into_alt}
+use Rattle.hs_block_forms.proofs.ItemLayerLemmas.{alt_back}
 use Rattle.hs_block_forms.proofs.ItemLayerLemmas.{alt_embeds, alt_places, from_block, into_block, block_back}
 use Rattle.hs_block_forms.proofs.ItemLayerLemmas.{block_embeds}
 
@@ -188,7 +191,8 @@ pub rhs_starts : (x : RhsBody) → begins rhs_starter (spelling_rhs_body x) ≡ 
 rhs_starts x = by (rhs_case x)
   where
     by : RhsCase x → begins rhs_starter (spelling_rhs_body x) ≡ true
-    by (by_equals e is) = ap (λ y. begins rhs_starter (spelling_rhs_body y)) is ∙ ap (begins rhs_starter) (equals_spelled e)
+    by (by_equals e is) = ap (λ y. begins rhs_starter (spelling_rhs_body y)) is ∙ ap (begins rhs_starter)
+        (equals_spelled e)
     by (by_guards p is) =
         ap (λ y. begins rhs_starter (spelling_rhs_body y)) is ∙ ap (begins rhs_starter) (guarded_spelled p)
         ∙ bar_starts (gd_lists.tokens p) is_equals (begins_append is_bar (spelling_gd p.0) _ (gd_starts p.0))
@@ -197,7 +201,8 @@ pub alt_body_starts : (x : AltBody) → begins alt_starter (spelling_alt_body x)
 alt_body_starts x = by (alt_case x)
   where
     by : AltCase x → begins alt_starter (spelling_alt_body x) ≡ true
-    by (by_arrow e is) = ap (λ y. begins alt_starter (spelling_alt_body y)) is ∙ ap (begins alt_starter) (arrow_spelled e)
+    by (by_arrow e is) = ap (λ y. begins alt_starter (spelling_alt_body y)) is ∙ ap (begins alt_starter)
+        (arrow_spelled e)
     by (by_arrows p is) =
         ap (λ y. begins alt_starter (spelling_alt_body y)) is ∙ ap (begins alt_starter) (arrows_spelled p)
         ∙ bar_starts (gda_lists.tokens p) is_arrow (begins_append is_bar (spelling_gda p.0) _ (gda_starts p.0))
@@ -414,7 +419,8 @@ module _ (limit : Option ℕ) (ts : Ts) where
         ts bar e (narrowed_failed gda_lists ends_body gdas_quiet limit ts e r)
 
   -- no body begins here
-  pub rhs_none : begins is_equals ts ≡ false → begins is_bar ts ≡ false → Rejects (within rhs_bodies limit) ts (length ts)
+  pub rhs_none : begins is_equals ts ≡ false → begins is_bar ts ≡ false → Rejects (within rhs_bodies limit) ts
+      (length ts)
   rhs_none no_equals no_bar = record {
     before = [];
     bad = ts;
@@ -433,7 +439,8 @@ module _ (limit : Option ℕ) (ts : Ts) where
       none [] a b c = true≢false (sym c)
       none (k ∷ s) a b c = true≢false (sym c ∙ ap (λ x. x || is_bar k) a ∙ b)
 
-  pub alt_none : begins is_arrow ts ≡ false → begins is_bar ts ≡ false → Rejects (within alt_bodies limit) ts (length ts)
+  pub alt_none : begins is_arrow ts ≡ false → begins is_bar ts ≡ false → Rejects (within alt_bodies limit) ts (length
+      ts)
   alt_none no_arrow no_bar = record {
     before = [];
     bad = ts;

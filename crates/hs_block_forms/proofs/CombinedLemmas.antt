@@ -212,7 +212,8 @@ module _ {K T S : Type 0} (a : Trees K T) (s : Trees K S) (none : S) (some : T �
     only = λ s' other after same good q e. by s' other after same e (p.cases other);
   }
     where
-      by : (s' : List K) (other : S) (after : List K) → SameStart ts s' → s.tokens none ++ s' ≡ s.tokens other ++ after →
+      by : (s' : List K) (other : S) (after : List K) → SameStart ts s' → s.tokens none ++ s' ≡ s.tokens other ++
+          after →
           PlaceCase none some other → (other ≡ none) × (after ≡ s')
       by s' other after same e (is_none is) = (
         is,

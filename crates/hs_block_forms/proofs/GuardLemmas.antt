@@ -32,7 +32,8 @@ use Rattle.hs_modules.specs.declared.expressions.GuardTree.TheVariants as gt
 use Rattle.hs_modules.specs.declared.expressions.InfixTree.{InfixTree, out-roll-InfixTree}
 use Rattle.hs_modules.specs.declared.expressions.SignedOperand.{SignedOperand}
 use Rattle.hs_expression_forms.specs.Trees.{within, Took, Failed, ended, Follows}
-use Rattle.hs_expression_forms.specs.Expressions.{depth_of_infix, infixes, pats, infix_goes_on, goes_on, starts_exp, last_part}
+use Rattle.hs_expression_forms.specs.Expressions.{depth_of_infix, infixes, pats, infix_goes_on, goes_on, starts_exp}
+use Rattle.hs_expression_forms.specs.Expressions.{last_part}
 use Rattle.hs_expression_forms.proofs.TreesLemmas.{reads_same, refuses_same, ended_took, ended_failed, ended_missed}
 use Rattle.hs_expression_forms.proofs.TreesLemmas.{row_took, row_first, row_second}
 use Rattle.hs_expression_forms.proofs.ListedLemmas.{Lists, list_chain, list_more, last_more}
@@ -294,7 +295,8 @@ guards_complete limit p good =
       ap (λ (f : Facts). not f.ends_in_type) (last_facts p.0 (p.1 ++ least ∷ [])
           ∙ ap facts_of_guard (last_more p.0 p.1 least) ∙ test_facts least_infix)
           ∙ ap not least_type,
-      append_assoc (spelling_guard p.0) (flat_map (λ x. t.Comma ∷ spelling_guard x) p.1) (t.Comma ∷ spelling_guard least)
+      append_assoc (spelling_guard p.0) (flat_map (λ x. t.Comma ∷ spelling_guard x) p.1) (t.Comma ∷ spelling_guard
+          least)
           ∙ ap (λ l. spelling_guard p.0 ++ (flat_map (λ x. t.Comma ∷ spelling_guard x) p.1 ++ l))
           (sym (append-nil (t.Comma ∷ spelling_guard least)))
           ∙ ap (λ l. spelling_guard p.0 ++ l)

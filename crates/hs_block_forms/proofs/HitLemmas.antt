@@ -16,9 +16,12 @@ use Rattle.hs_trees.specs.declared.patterns.PatTree.{PatTree}
 use Rattle.hs_trees.proofs.PatternHitLemmas.{Each, each_of, no_bind}
 use Rattle.hs_modules.specs.Words.{qop_tokens, qvar_tokens}
 use Rattle.hs_modules.specs.Tokens.{token_algebra, aexp_tokens, exp_tokens, operand_tokens, sign_tokens}
-use Rattle.hs_modules.specs.Folds.{folded_aexp, folded_alt_body, folded_alt_slot, folded_decl_slot, folded_decl, folded_exp, folded_guard, folded_locals}
-use Rattle.hs_modules.specs.Folds.{folded_operand, folded_rhs_body, folded_alt_block, folded_alt, folded_case, folded_decl_block, folded_gd, folded_gda}
-use Rattle.hs_modules.specs.Folds.{folded_if, folded_infix, folded_lambda, folded_let, folded_link, folded_rhs, folded_signed}
+use Rattle.hs_modules.specs.Folds.{folded_aexp, folded_alt_body, folded_alt_slot, folded_decl_slot, folded_decl}
+use Rattle.hs_modules.specs.Folds.{folded_exp, folded_guard, folded_locals}
+use Rattle.hs_modules.specs.Folds.{folded_operand, folded_rhs_body, folded_alt_block, folded_alt, folded_case}
+use Rattle.hs_modules.specs.Folds.{folded_decl_block, folded_gd, folded_gda}
+use Rattle.hs_modules.specs.Folds.{folded_if, folded_infix, folded_lambda, folded_let, folded_link, folded_rhs}
+use Rattle.hs_modules.specs.Folds.{folded_signed}
 use Rattle.hs_modules.specs.Tokens.{spelling_aexp, spelling_exp, spelling_infix, spelling_link, spelling_operand}
 use Rattle.hs_modules.specs.Tokens.{spelling_signed, spelling_lambda, spelling_let, spelling_if, spelling_case}
 use Rattle.hs_modules.specs.declared.names.QOpTree.{QOpTree}
@@ -133,7 +136,8 @@ right_misses op x p r d h =
     ∙ qop_misses op (x ++ t.RightParen ∷ r) (suc d) (p (t.RightParen ∷ r) (suc d) h)
 
 typed_misses : (x ty : Ts) → Misses x → Misses (x ++ t.DoubleColon ∷ ty)
-typed_misses x ty p r d h = ap (λ l. hits l d) (append_assoc x (t.DoubleColon ∷ ty) r) ∙ p (t.DoubleColon ∷ (ty ++ r)) d refl
+typed_misses x ty p r d h = ap (λ l. hits l d) (append_assoc x (t.DoubleColon ∷ ty) r) ∙ p (t.DoubleColon ∷ (ty ++
+    r)) d refl
 
 -- the trees whose tokens miss, and all others
 abbrev PAExpTree : AExpTree → Type 0
@@ -274,38 +278,111 @@ PSignedOperand x = Misses (spelling_signed x)
 abbrev SSignedOperand : Type 0
 SSignedOperand = (x : SignedOperand) × PSignedOperand x
 
-aexp_step : (y : AExpTree-F SAExpTree SAltBody SAltSlot SDeclSlot SDeclTree SExpTree SGuardTree SLocals SOperandTree SRhsBody SAltBlock SAltTree SCaseTree SDeclBlock SGdTree SGdaTree SIfTree SInfixTree SLambdaTree SLetTree SOpOperand SRhsTree SSignedOperand) → Misses (aexp_tokens (map-AExpTree _ _ _ _ _ _ _ _ _ _ _ _ _ _ _ _ _ _ _ _ _ _ _ _ _ _ _ _ _ _ _ _ _ _ _ _ _ _ _ _ _ _ _ _ _ _ (folded_aexp token_algebra) (folded_alt_body token_algebra) (folded_alt_slot token_algebra) (folded_decl_slot token_algebra) (folded_decl token_algebra) (folded_exp token_algebra) (folded_guard token_algebra) (folded_locals token_algebra) (folded_operand token_algebra) (folded_rhs_body token_algebra) (folded_alt_block token_algebra) (folded_alt token_algebra) (folded_case token_algebra) (folded_decl_block token_algebra) (folded_gd token_algebra) (folded_gda token_algebra) (folded_if token_algebra) (folded_infix token_algebra) (folded_lambda token_algebra) (folded_let token_algebra) (folded_link token_algebra) (folded_rhs token_algebra) (folded_signed token_algebra) (map-AExpTree SAExpTree SAltBody SAltSlot SDeclSlot SDeclTree SExpTree SGuardTree SLocals SOperandTree SRhsBody SAltBlock SAltTree SCaseTree SDeclBlock SGdTree SGdaTree SIfTree SInfixTree SLambdaTree SLetTree SOpOperand SRhsTree SSignedOperand _ _ _ _ _ _ _ _ _ _ _ _ _ _ _ _ _ _ _ _ _ _ _ (λ e. e.0) (λ e. e.0) (λ e. e.0) (λ e. e.0) (λ e. e.0) (λ e. e.0) (λ e. e.0) (λ e. e.0) (λ e. e.0) (λ e. e.0) (λ e. e.0) (λ e. e.0) (λ e. e.0) (λ e. e.0) (λ e. e.0) (λ e. e.0) (λ e. e.0) (λ e. e.0) (λ e. e.0) (λ e. e.0) (λ e. e.0) (λ e. e.0) (λ e. e.0) y)))
+aexp_step : (y : AExpTree-F SAExpTree SAltBody SAltSlot SDeclSlot SDeclTree SExpTree SGuardTree SLocals SOperandTree
+    SRhsBody SAltBlock SAltTree SCaseTree SDeclBlock SGdTree SGdaTree SIfTree SInfixTree SLambdaTree SLetTree
+    SOpOperand SRhsTree SSignedOperand) → Misses (aexp_tokens (map-AExpTree _ _ _ _ _ _ _ _ _ _ _ _ _ _ _ _ _ _ _ _ _
+    _ _ _ _ _ _ _ _ _ _ _ _ _ _ _ _ _ _ _ _ _ _ _ _ _ (folded_aexp token_algebra) (folded_alt_body token_algebra)
+    (folded_alt_slot token_algebra) (folded_decl_slot token_algebra) (folded_decl token_algebra) (folded_exp
+    token_algebra) (folded_guard token_algebra) (folded_locals token_algebra) (folded_operand token_algebra)
+    (folded_rhs_body token_algebra) (folded_alt_block token_algebra) (folded_alt token_algebra) (folded_case
+    token_algebra) (folded_decl_block token_algebra) (folded_gd token_algebra) (folded_gda token_algebra) (folded_if
+    token_algebra) (folded_infix token_algebra) (folded_lambda token_algebra) (folded_let token_algebra) (folded_link
+    token_algebra) (folded_rhs token_algebra) (folded_signed token_algebra) (map-AExpTree SAExpTree SAltBody SAltSlot
+    SDeclSlot SDeclTree SExpTree SGuardTree SLocals SOperandTree SRhsBody SAltBlock SAltTree SCaseTree SDeclBlock
+    SGdTree SGdaTree SIfTree SInfixTree SLambdaTree SLetTree SOpOperand SRhsTree SSignedOperand _ _ _ _ _ _ _ _ _ _ _
+    _ _ _ _ _ _ _ _ _ _ _ _ (λ e. e.0) (λ e. e.0) (λ e. e.0) (λ e. e.0) (λ e. e.0) (λ e. e.0) (λ e. e.0) (λ e. e.0)
+    (λ e. e.0) (λ e. e.0) (λ e. e.0) (λ e. e.0) (λ e. e.0) (λ e. e.0) (λ e. e.0) (λ e. e.0) (λ e. e.0) (λ e. e.0) (λ
+    e. e.0) (λ e. e.0) (λ e. e.0) (λ e. e.0) (λ e. e.0) y)))
 aexp_step (AExpTree-F.Var n) = qvar_misses n
 aexp_step (AExpTree-F.Con c) = gcon_misses c
 aexp_step (AExpTree-F.Literal x) = literal_misses x
-aexp_step (AExpTree-F.Parts x xs) = round_misses (between_commas (spelling_exp x.0) (map spelling_exp (map (λ e. e.0) xs))) (misses_between (spelling_exp x.0) (map spelling_exp (map (λ e. e.0) xs)) x.1 (each_of spelling_exp Misses xs))
-aexp_step (AExpTree-F.List x xs) = square_misses (between_commas (spelling_exp x.0) (map spelling_exp (map (λ e. e.0) xs))) (misses_between (spelling_exp x.0) (map spelling_exp (map (λ e. e.0) xs)) x.1 (each_of spelling_exp Misses xs))
+aexp_step (AExpTree-F.Parts x xs) = round_misses (between_commas (spelling_exp x.0) (map spelling_exp (map (λ e. e.0)
+    xs))) (misses_between (spelling_exp x.0) (map spelling_exp (map (λ e. e.0) xs)) x.1 (each_of spelling_exp Misses
+    xs))
+aexp_step (AExpTree-F.List x xs) = square_misses (between_commas (spelling_exp x.0) (map spelling_exp (map (λ e. e.0)
+    xs))) (misses_between (spelling_exp x.0) (map spelling_exp (map (λ e. e.0) xs)) x.1 (each_of spelling_exp Misses
+    xs))
 aexp_step (AExpTree-F.LeftSection x op) = left_misses (spelling_infix x.0) op x.1
 aexp_step (AExpTree-F.RightSection op x) = right_misses op (spelling_infix x.0) x.1
 
-exp_step : (y : ExpTree-F SAExpTree SAltBody SAltSlot SDeclSlot SDeclTree SExpTree SGuardTree SLocals SOperandTree SRhsBody SAltBlock SAltTree SCaseTree SDeclBlock SGdTree SGdaTree SIfTree SInfixTree SLambdaTree SLetTree SOpOperand SRhsTree SSignedOperand) → Misses (exp_tokens (map-ExpTree _ _ _ _ _ _ _ _ _ _ _ _ _ _ _ _ _ _ _ _ _ _ _ _ _ _ _ _ _ _ _ _ _ _ _ _ _ _ _ _ _ _ _ _ _ _ (folded_aexp token_algebra) (folded_alt_body token_algebra) (folded_alt_slot token_algebra) (folded_decl_slot token_algebra) (folded_decl token_algebra) (folded_exp token_algebra) (folded_guard token_algebra) (folded_locals token_algebra) (folded_operand token_algebra) (folded_rhs_body token_algebra) (folded_alt_block token_algebra) (folded_alt token_algebra) (folded_case token_algebra) (folded_decl_block token_algebra) (folded_gd token_algebra) (folded_gda token_algebra) (folded_if token_algebra) (folded_infix token_algebra) (folded_lambda token_algebra) (folded_let token_algebra) (folded_link token_algebra) (folded_rhs token_algebra) (folded_signed token_algebra) (map-ExpTree SAExpTree SAltBody SAltSlot SDeclSlot SDeclTree SExpTree SGuardTree SLocals SOperandTree SRhsBody SAltBlock SAltTree SCaseTree SDeclBlock SGdTree SGdaTree SIfTree SInfixTree SLambdaTree SLetTree SOpOperand SRhsTree SSignedOperand _ _ _ _ _ _ _ _ _ _ _ _ _ _ _ _ _ _ _ _ _ _ _ (λ e. e.0) (λ e. e.0) (λ e. e.0) (λ e. e.0) (λ e. e.0) (λ e. e.0) (λ e. e.0) (λ e. e.0) (λ e. e.0) (λ e. e.0) (λ e. e.0) (λ e. e.0) (λ e. e.0) (λ e. e.0) (λ e. e.0) (λ e. e.0) (λ e. e.0) (λ e. e.0) (λ e. e.0) (λ e. e.0) (λ e. e.0) (λ e. e.0) (λ e. e.0) y)))
+exp_step : (y : ExpTree-F SAExpTree SAltBody SAltSlot SDeclSlot SDeclTree SExpTree SGuardTree SLocals SOperandTree
+    SRhsBody SAltBlock SAltTree SCaseTree SDeclBlock SGdTree SGdaTree SIfTree SInfixTree SLambdaTree SLetTree
+    SOpOperand SRhsTree SSignedOperand) → Misses (exp_tokens (map-ExpTree _ _ _ _ _ _ _ _ _ _ _ _ _ _ _ _ _ _ _ _ _ _
+    _ _ _ _ _ _ _ _ _ _ _ _ _ _ _ _ _ _ _ _ _ _ _ _ (folded_aexp token_algebra) (folded_alt_body token_algebra)
+    (folded_alt_slot token_algebra) (folded_decl_slot token_algebra) (folded_decl token_algebra) (folded_exp
+    token_algebra) (folded_guard token_algebra) (folded_locals token_algebra) (folded_operand token_algebra)
+    (folded_rhs_body token_algebra) (folded_alt_block token_algebra) (folded_alt token_algebra) (folded_case
+    token_algebra) (folded_decl_block token_algebra) (folded_gd token_algebra) (folded_gda token_algebra) (folded_if
+    token_algebra) (folded_infix token_algebra) (folded_lambda token_algebra) (folded_let token_algebra) (folded_link
+    token_algebra) (folded_rhs token_algebra) (folded_signed token_algebra) (map-ExpTree SAExpTree SAltBody SAltSlot
+    SDeclSlot SDeclTree SExpTree SGuardTree SLocals SOperandTree SRhsBody SAltBlock SAltTree SCaseTree SDeclBlock
+    SGdTree SGdaTree SIfTree SInfixTree SLambdaTree SLetTree SOpOperand SRhsTree SSignedOperand _ _ _ _ _ _ _ _ _ _ _
+    _ _ _ _ _ _ _ _ _ _ _ _ (λ e. e.0) (λ e. e.0) (λ e. e.0) (λ e. e.0) (λ e. e.0) (λ e. e.0) (λ e. e.0) (λ e. e.0)
+    (λ e. e.0) (λ e. e.0) (λ e. e.0) (λ e. e.0) (λ e. e.0) (λ e. e.0) (λ e. e.0) (λ e. e.0) (λ e. e.0) (λ e. e.0) (λ
+    e. e.0) (λ e. e.0) (λ e. e.0) (λ e. e.0) (λ e. e.0) y)))
 exp_step (ExpTree-F.Infix x) = x.1
 exp_step (ExpTree-F.Annotated x ty) = typed_misses (spelling_infix x.0) (spelling_type ty) x.1
 
-operand_step : (y : OperandTree-F SAExpTree SAltBody SAltSlot SDeclSlot SDeclTree SExpTree SGuardTree SLocals SOperandTree SRhsBody SAltBlock SAltTree SCaseTree SDeclBlock SGdTree SGdaTree SIfTree SInfixTree SLambdaTree SLetTree SOpOperand SRhsTree SSignedOperand) → Misses (operand_tokens (map-OperandTree _ _ _ _ _ _ _ _ _ _ _ _ _ _ _ _ _ _ _ _ _ _ _ _ _ _ _ _ _ _ _ _ _ _ _ _ _ _ _ _ _ _ _ _ _ _ (folded_aexp token_algebra) (folded_alt_body token_algebra) (folded_alt_slot token_algebra) (folded_decl_slot token_algebra) (folded_decl token_algebra) (folded_exp token_algebra) (folded_guard token_algebra) (folded_locals token_algebra) (folded_operand token_algebra) (folded_rhs_body token_algebra) (folded_alt_block token_algebra) (folded_alt token_algebra) (folded_case token_algebra) (folded_decl_block token_algebra) (folded_gd token_algebra) (folded_gda token_algebra) (folded_if token_algebra) (folded_infix token_algebra) (folded_lambda token_algebra) (folded_let token_algebra) (folded_link token_algebra) (folded_rhs token_algebra) (folded_signed token_algebra) (map-OperandTree SAExpTree SAltBody SAltSlot SDeclSlot SDeclTree SExpTree SGuardTree SLocals SOperandTree SRhsBody SAltBlock SAltTree SCaseTree SDeclBlock SGdTree SGdaTree SIfTree SInfixTree SLambdaTree SLetTree SOpOperand SRhsTree SSignedOperand _ _ _ _ _ _ _ _ _ _ _ _ _ _ _ _ _ _ _ _ _ _ _ (λ e. e.0) (λ e. e.0) (λ e. e.0) (λ e. e.0) (λ e. e.0) (λ e. e.0) (λ e. e.0) (λ e. e.0) (λ e. e.0) (λ e. e.0) (λ e. e.0) (λ e. e.0) (λ e. e.0) (λ e. e.0) (λ e. e.0) (λ e. e.0) (λ e. e.0) (λ e. e.0) (λ e. e.0) (λ e. e.0) (λ e. e.0) (λ e. e.0) (λ e. e.0) y)))
+operand_step : (y : OperandTree-F SAExpTree SAltBody SAltSlot SDeclSlot SDeclTree SExpTree SGuardTree SLocals
+    SOperandTree SRhsBody SAltBlock SAltTree SCaseTree SDeclBlock SGdTree SGdaTree SIfTree SInfixTree SLambdaTree
+    SLetTree SOpOperand SRhsTree SSignedOperand) → Misses (operand_tokens (map-OperandTree _ _ _ _ _ _ _ _ _ _ _ _ _
+    _ _ _ _ _ _ _ _ _ _ _ _ _ _ _ _ _ _ _ _ _ _ _ _ _ _ _ _ _ _ _ _ _ (folded_aexp token_algebra) (folded_alt_body
+    token_algebra) (folded_alt_slot token_algebra) (folded_decl_slot token_algebra) (folded_decl token_algebra)
+    (folded_exp token_algebra) (folded_guard token_algebra) (folded_locals token_algebra) (folded_operand
+    token_algebra) (folded_rhs_body token_algebra) (folded_alt_block token_algebra) (folded_alt token_algebra)
+    (folded_case token_algebra) (folded_decl_block token_algebra) (folded_gd token_algebra) (folded_gda
+    token_algebra) (folded_if token_algebra) (folded_infix token_algebra) (folded_lambda token_algebra) (folded_let
+    token_algebra) (folded_link token_algebra) (folded_rhs token_algebra) (folded_signed token_algebra)
+    (map-OperandTree SAExpTree SAltBody SAltSlot SDeclSlot SDeclTree SExpTree SGuardTree SLocals SOperandTree
+    SRhsBody SAltBlock SAltTree SCaseTree SDeclBlock SGdTree SGdaTree SIfTree SInfixTree SLambdaTree SLetTree
+    SOpOperand SRhsTree SSignedOperand _ _ _ _ _ _ _ _ _ _ _ _ _ _ _ _ _ _ _ _ _ _ _ (λ e. e.0) (λ e. e.0) (λ e. e.0)
+    (λ e. e.0) (λ e. e.0) (λ e. e.0) (λ e. e.0) (λ e. e.0) (λ e. e.0) (λ e. e.0) (λ e. e.0) (λ e. e.0) (λ e. e.0) (λ
+    e. e.0) (λ e. e.0) (λ e. e.0) (λ e. e.0) (λ e. e.0) (λ e. e.0) (λ e. e.0) (λ e. e.0) (λ e. e.0) (λ e. e.0) y)))
 operand_step (OperandTree-F.Lambda x) = x.1
 operand_step (OperandTree-F.Let x) = x.1
 operand_step (OperandTree-F.If x) = x.1
 operand_step (OperandTree-F.Case x) = x.1
-operand_step (OperandTree-F.Apply x xs) = misses_append (spelling_aexp x.0) _ x.1 (misses_all (map spelling_aexp (map (λ e. e.0) xs)) (each_of spelling_aexp Misses xs))
+operand_step (OperandTree-F.Apply x xs) = misses_append (spelling_aexp x.0) _ x.1 (misses_all (map spelling_aexp (map
+    (λ e. e.0) xs)) (each_of spelling_aexp Misses xs))
 
 pub infix_misses : (x : InfixTree) → Misses (spelling_infix x)
 unfolding token_algebra
-infix_misses = ind-InfixTree PAExpTree PAltBody PAltSlot PDeclSlot PDeclTree PExpTree PGuardTree PLocals POperandTree PRhsBody PAltBlock PAltTree PCaseTree PDeclBlock PGdTree PGdaTree PIfTree PInfixTree PLambdaTree PLetTree POpOperand PRhsTree PSignedOperand
-    (λ x y is. subst Misses (sym (aexp_folded token_algebra x)) (subst (λ l. Misses (aexp_tokens (map-AExpTree _ _ _ _ _ _ _ _ _ _ _ _ _ _ _ _ _ _ _ _ _ _ _ _ _ _ _ _ _ _ _ _ _ _ _ _ _ _ _ _ _ _ _ _ _ _ (folded_aexp token_algebra) (folded_alt_body token_algebra) (folded_alt_slot token_algebra) (folded_decl_slot token_algebra) (folded_decl token_algebra) (folded_exp token_algebra) (folded_guard token_algebra) (folded_locals token_algebra) (folded_operand token_algebra) (folded_rhs_body token_algebra) (folded_alt_block token_algebra) (folded_alt token_algebra) (folded_case token_algebra) (folded_decl_block token_algebra) (folded_gd token_algebra) (folded_gda token_algebra) (folded_if token_algebra) (folded_infix token_algebra) (folded_lambda token_algebra) (folded_let token_algebra) (folded_link token_algebra) (folded_rhs token_algebra) (folded_signed token_algebra) l))) is (aexp_step y)))
+infix_misses = ind-InfixTree PAExpTree PAltBody PAltSlot PDeclSlot PDeclTree PExpTree PGuardTree PLocals POperandTree
+    PRhsBody PAltBlock PAltTree PCaseTree PDeclBlock PGdTree PGdaTree PIfTree PInfixTree PLambdaTree PLetTree
+    POpOperand PRhsTree PSignedOperand
+    (λ x y is. subst Misses (sym (aexp_folded token_algebra x)) (subst (λ l. Misses (aexp_tokens (map-AExpTree _ _ _
+    _ _ _ _ _ _ _ _ _ _ _ _ _ _ _ _ _ _ _ _ _ _ _ _ _ _ _ _ _ _ _ _ _ _ _ _ _ _ _ _ _ _ _ (folded_aexp
+    token_algebra) (folded_alt_body token_algebra) (folded_alt_slot token_algebra) (folded_decl_slot
+    token_algebra) (folded_decl token_algebra) (folded_exp token_algebra) (folded_guard token_algebra)
+    (folded_locals token_algebra) (folded_operand token_algebra) (folded_rhs_body token_algebra)
+    (folded_alt_block token_algebra) (folded_alt token_algebra) (folded_case token_algebra) (folded_decl_block
+    token_algebra) (folded_gd token_algebra) (folded_gda token_algebra) (folded_if token_algebra) (folded_infix
+    token_algebra) (folded_lambda token_algebra) (folded_let token_algebra) (folded_link token_algebra)
+    (folded_rhs token_algebra) (folded_signed token_algebra) l))) is (aexp_step y)))
     (λ x y is. tt)
     (λ x y is. tt)
     (λ x y is. tt)
     (λ x y is. tt)
-    (λ x y is. subst Misses (sym (exp_folded token_algebra x)) (subst (λ l. Misses (exp_tokens (map-ExpTree _ _ _ _ _ _ _ _ _ _ _ _ _ _ _ _ _ _ _ _ _ _ _ _ _ _ _ _ _ _ _ _ _ _ _ _ _ _ _ _ _ _ _ _ _ _ (folded_aexp token_algebra) (folded_alt_body token_algebra) (folded_alt_slot token_algebra) (folded_decl_slot token_algebra) (folded_decl token_algebra) (folded_exp token_algebra) (folded_guard token_algebra) (folded_locals token_algebra) (folded_operand token_algebra) (folded_rhs_body token_algebra) (folded_alt_block token_algebra) (folded_alt token_algebra) (folded_case token_algebra) (folded_decl_block token_algebra) (folded_gd token_algebra) (folded_gda token_algebra) (folded_if token_algebra) (folded_infix token_algebra) (folded_lambda token_algebra) (folded_let token_algebra) (folded_link token_algebra) (folded_rhs token_algebra) (folded_signed token_algebra) l))) is (exp_step y)))
+    (λ x y is. subst Misses (sym (exp_folded token_algebra x)) (subst (λ l. Misses (exp_tokens (map-ExpTree _ _ _ _ _
+    _ _ _ _ _ _ _ _ _ _ _ _ _ _ _ _ _ _ _ _ _ _ _ _ _ _ _ _ _ _ _ _ _ _ _ _ _ _ _ _ _ (folded_aexp token_algebra)
+    (folded_alt_body token_algebra) (folded_alt_slot token_algebra) (folded_decl_slot token_algebra) (folded_decl
+    token_algebra) (folded_exp token_algebra) (folded_guard token_algebra) (folded_locals token_algebra)
+    (folded_operand token_algebra) (folded_rhs_body token_algebra) (folded_alt_block token_algebra) (folded_alt
+    token_algebra) (folded_case token_algebra) (folded_decl_block token_algebra) (folded_gd token_algebra)
+    (folded_gda token_algebra) (folded_if token_algebra) (folded_infix token_algebra) (folded_lambda
+    token_algebra) (folded_let token_algebra) (folded_link token_algebra) (folded_rhs token_algebra)
+    (folded_signed token_algebra) l))) is (exp_step y)))
     (λ x y is. tt)
     (λ x y is. tt)
-    (λ x y is. subst Misses (sym (operand_folded token_algebra x)) (subst (λ l. Misses (operand_tokens (map-OperandTree _ _ _ _ _ _ _ _ _ _ _ _ _ _ _ _ _ _ _ _ _ _ _ _ _ _ _ _ _ _ _ _ _ _ _ _ _ _ _ _ _ _ _ _ _ _ (folded_aexp token_algebra) (folded_alt_body token_algebra) (folded_alt_slot token_algebra) (folded_decl_slot token_algebra) (folded_decl token_algebra) (folded_exp token_algebra) (folded_guard token_algebra) (folded_locals token_algebra) (folded_operand token_algebra) (folded_rhs_body token_algebra) (folded_alt_block token_algebra) (folded_alt token_algebra) (folded_case token_algebra) (folded_decl_block token_algebra) (folded_gd token_algebra) (folded_gda token_algebra) (folded_if token_algebra) (folded_infix token_algebra) (folded_lambda token_algebra) (folded_let token_algebra) (folded_link token_algebra) (folded_rhs token_algebra) (folded_signed token_algebra) l))) is (operand_step y)))
+    (λ x y is. subst Misses (sym (operand_folded token_algebra x)) (subst (λ l. Misses (operand_tokens
+    (map-OperandTree _ _ _ _ _ _ _ _ _ _ _ _ _ _ _ _ _ _ _ _ _ _ _ _ _ _ _ _ _ _ _ _ _ _ _ _ _ _ _ _ _ _ _ _ _ _
+    (folded_aexp token_algebra) (folded_alt_body token_algebra) (folded_alt_slot token_algebra) (folded_decl_slot
+    token_algebra) (folded_decl token_algebra) (folded_exp token_algebra) (folded_guard token_algebra)
+    (folded_locals token_algebra) (folded_operand token_algebra) (folded_rhs_body token_algebra)
+    (folded_alt_block token_algebra) (folded_alt token_algebra) (folded_case token_algebra) (folded_decl_block
+    token_algebra) (folded_gd token_algebra) (folded_gda token_algebra) (folded_if token_algebra) (folded_infix
+    token_algebra) (folded_lambda token_algebra) (folded_let token_algebra) (folded_link token_algebra)
+    (folded_rhs token_algebra) (folded_signed token_algebra) l))) is (operand_step y)))
     (λ x y is. tt)
     (λ x y is. tt)
     (λ x y is. tt)
@@ -314,12 +391,18 @@ infix_misses = ind-InfixTree PAExpTree PAltBody PAltSlot PDeclSlot PDeclTree PEx
     (λ x y is. tt)
     (λ x y is. tt)
     (λ x y is. subst Misses (sym (if_folded token_algebra x)) (λ r d h. refl))
-    (λ x y is. subst Misses (sym (infix_folded token_algebra x)) (subst (λ l. Misses (spelling_signed l.first ++ flat_map (λ part. part) (map spelling_link l.rest))) is (misses_append (spelling_signed y.first.0) _ y.first.1 (misses_all _ (each_of spelling_link Misses y.rest)))))
+    (λ x y is. subst Misses (sym (infix_folded token_algebra x)) (subst (λ l. Misses (spelling_signed l.first ++
+    flat_map (λ part. part) (map spelling_link l.rest))) is (misses_append (spelling_signed y.first.0) _
+    y.first.1 (misses_all _ (each_of spelling_link Misses y.rest)))))
     (λ x y is. subst Misses (sym (lambda_folded token_algebra x)) (λ r d h. refl))
     (λ x y is. subst Misses (sym (let_folded token_algebra x)) (λ r d h. refl))
-    (λ x y is. subst Misses (sym (link_folded token_algebra x)) (subst (λ l. Misses (qop_tokens l.op ++ spelling_signed l.operand)) is (misses_append (qop_tokens y.op) (spelling_signed y.operand.0) (qop_misses y.op) y.operand.1)))
+    (λ x y is. subst Misses (sym (link_folded token_algebra x)) (subst (λ l. Misses (qop_tokens l.op ++
+    spelling_signed l.operand)) is (misses_append (qop_tokens y.op) (spelling_signed y.operand.0) (qop_misses
+    y.op) y.operand.1)))
     (λ x y is. tt)
-    (λ x y is. subst Misses (sym (signed_folded token_algebra x)) (subst (λ l. Misses (sign_tokens l.negated ++ spelling_operand l.operand)) is (misses_append (sign_tokens y.negated) (spelling_operand y.operand.0) (sign_misses y.negated) y.operand.1)))
+    (λ x y is. subst Misses (sym (signed_folded token_algebra x)) (subst (λ l. Misses (sign_tokens l.negated ++
+    spelling_operand l.operand)) is (misses_append (sign_tokens y.negated) (spelling_operand y.operand.0)
+    (sign_misses y.negated) y.operand.1)))
 
 -- An expression before tokens that make no hit begins no pattern before `<-`.
 pub apart : (e : InfixTree) (s : Ts) (p : PatTree) (more : Ts) → hits s zero ≡ false →

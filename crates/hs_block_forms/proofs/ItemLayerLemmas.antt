@@ -23,7 +23,8 @@ use Rattle.hs_modules.specs.Formed.{fact_algebra, good_of, facts_of_alt_slot, fa
 use Rattle.hs_modules.specs.declared.expressions.AltBlock.{AltBlock, out-AltBlock, roll-AltBlock, roll-out-AltBlock}
 use Rattle.hs_modules.specs.declared.expressions.AltBlock.{out-roll-AltBlock}
 use Rattle.hs_modules.specs.declared.expressions.AltBody.{AltBody}
-use Rattle.hs_modules.specs.declared.expressions.AltSlot.{AltSlot, AltSlot-F, out-AltSlot, roll-AltSlot, roll-out-AltSlot}
+use Rattle.hs_modules.specs.declared.expressions.AltSlot.{AltSlot, AltSlot-F, out-AltSlot, roll-AltSlot}
+use Rattle.hs_modules.specs.declared.expressions.AltSlot.{roll-out-AltSlot}
 use Rattle.hs_modules.specs.declared.expressions.AltSlot.TheVariants as sl
 use Rattle.hs_modules.specs.declared.expressions.AltTree.{AltTree, out-AltTree, roll-AltTree, roll-out-AltTree}
 use Rattle.hs_modules.specs.declared.expressions.AltTree.{out-roll-AltTree}

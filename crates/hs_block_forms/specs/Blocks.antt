@@ -7,7 +7,8 @@ use Rattle.hs_tokens.specs.declared.terminal.Terminal.TheVariants as t
 use Rattle.hs_tokens.specs.declared.word.Word.TheVariants as w
 use Rattle.hs_trees.specs.Hits.{follows_guard}
 use Rattle.hs_trees.specs.declared.patterns.PatTree.{PatTree}
-use Rattle.hs_modules.specs.Tokens.{spelling_alt, spelling_alt_body, spelling_alt_slot, spelling_decl_block, spelling_gd}
+use Rattle.hs_modules.specs.Tokens.{spelling_alt, spelling_alt_body, spelling_alt_slot, spelling_decl_block}
+use Rattle.hs_modules.specs.Tokens.{spelling_gd}
 use Rattle.hs_modules.specs.Tokens.{spelling_gda, spelling_guard, spelling_infix, spelling_rhs, spelling_rhs_body}
 use Rattle.hs_modules.specs.Formed.{Facts, last_of, facts_of_alt, facts_of_alt_body, facts_of_alt_slot}
 use Rattle.hs_modules.specs.Formed.{facts_of_decl_block, facts_of_gd, facts_of_gda, facts_of_guard, facts_of_infix}

@@ -1,5 +1,6 @@
 -- How the reader of a chain goes on and where it stops.
-use Rattle.std.proofs.Common.{◌≡◌, ℕ, zero, suc, ◌+◌, ◌-◌, ◌<◌, Bool, true, false, List, [], ◌∷◌, ◌++◌, length, refl, sym}
+use Rattle.std.proofs.Common.{◌≡◌, ℕ, zero, suc, ◌+◌, ◌-◌, ◌<◌, Bool, true, false, List, [], ◌∷◌, ◌++◌, length, refl}
+use Rattle.std.proofs.Common.{sym}
 use Rattle.std.proofs.Common.{ap, ◌∙◌, subst, arith, inl, inr, ◌⊎◌, true≢false}
 use Rattle.std.specs.Prelude.{max, Option, Some, None, not, ◌&&◌}
 use Rattle.std.specs.List.{slice_get}
@@ -9,20 +10,19 @@ use Rattle.hs_forms.specs.Answers.{Rejects, Fails}
 use Rattle.hs_forms.specs.declared.fault.Fault.{Fault}
 use Rattle.hs_trees.specs.Patterns.{Ts}
 use Rattle.hs_modules.specs.ExpressionExtents.{sign}
-use Rattle.hs_modules.specs.Words.{qop_tokens}
 use Rattle.hs_modules.specs.Formed.{facts_of_infix}
 use Rattle.hs_modules.specs.declared.names.QOpTree.{QOpTree}
 use Rattle.hs_modules.specs.declared.expressions.InfixTree.{InfixTree, out-InfixTree, roll-out-InfixTree}
 use Rattle.hs_modules.specs.declared.expressions.OpOperand.{OpOperand, out-OpOperand}
 use Rattle.hs_modules.specs.declared.expressions.SignedOperand.{SignedOperand}
-use Rattle.hs_expression_forms.specs.Trees.{within, Took}
+use Rattle.hs_expression_forms.specs.Trees.{within}
 use Rattle.hs_expression_forms.specs.Expressions.{starts_qop}
 use Rattle.hs_expression_forms.specs.Links.{links}
 use Rattle.hs_expression_forms.proofs.LinkLayerLemmas.{negated_of}
 use Rattle.hs_expression_forms.proofs.LinkLemmas.{LinkState, make_infix, make_link}
 use Rattle.hs_expression_forms.proofs.LinkReturnLemmas.{SignedTook}
 use Rattle.hs_expression_forms.proofs.LinkAnswerLemmas.{Completes, completes_lone, completes_room, op_over, op_fails}
-use Rattle.hs_expression_forms.proofs.LinkAnswerLemmas.{next_fails, chain_stop}
+use Rattle.hs_expression_forms.proofs.LinkAnswerLemmas.{next_fails}
 use Rattle.hs_expression_forms.proofs.LinkFirstLemmas.{first_state}
 use Rattle.hs_expression_forms.proofs.OpenLemmas.{signed_open, last_open, chain_open, first_open, more_open, links_step}
 use Rattle.hs_expressions.specs.LinkAnswers.{LinkFails, over, operator, behind, LinkTook}
@@ -67,7 +67,8 @@ completes : (limit : Option ℕ) (ts : Ts) (x : InfixTree) (here : Ts) (deep ops
     (st : LinkState limit ts x here deep ops) → (facts_of_infix x).is_open ≡ false → (lone : Bool) →
     (lone ≡ false → Within limit (deep + (ops + 1))) → Completes limit ts x here deep ops st lone
 completes limit ts x here deep ops st shut true room = completes_lone limit ts x here deep ops st shut
-completes limit ts x here deep ops st shut false room = completes_room limit ts x here deep ops st shut (room refl) false
+completes limit ts x here deep ops st shut false room = completes_room limit ts x here deep ops st shut (room refl)
+    false
 
 pub link_fails : (limit : Option ℕ) (lone : Bool) (ts : Ts) (s : SignedOperand) (xs : List OpOperand) (here : Ts)
     (deep ops : ℕ) (b : Bool) → Reading limit ts s xs here deep ops b → b ≡ false → begins starts_qop here ≡ true →
@@ -99,7 +100,8 @@ last_at s (y ∷ z ∷ xs) x e =
     let n : length (y ∷ z ∷ xs) - 1 ≡ suc (length (z ∷ xs) - 1) = omega arith in
     last_at (out-OpOperand y).operand (z ∷ xs) x (ap (slice_get (y ∷ z ∷ xs)) (sym n) ∙ e)
 
-last_none : (s : SignedOperand) (xs : List OpOperand) → slice_get xs (length xs - 1) ≡ None → last_open s xs ≡ signed_open s
+last_none : (s : SignedOperand) (xs : List OpOperand) → slice_get xs (length xs - 1) ≡ None → last_open s xs ≡
+    signed_open s
 last_none s [] e = refl
 last_none s (y ∷ []) e = absurd (none e)
   where

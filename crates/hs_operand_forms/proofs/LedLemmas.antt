@@ -18,7 +18,8 @@ use Rattle.hs_modules.specs.declared.expressions.OperandTree.{OperandTree}
 use Rattle.hs_expression_forms.specs.Trees.{Trees, within, Took, Failed, behind_token, ended, row, Follows, Makes}
 use Rattle.hs_expression_forms.specs.Expressions.{exps, operands, applies, starts_exp}
 use Rattle.hs_expression_forms.specs.Expressions.{starts_operand, starts_aexp}
-use Rattle.hs_expression_forms.proofs.TreesLemmas.{ended_took, ended_failed, ended_missed, row_took, row_first, row_second}
+use Rattle.hs_expression_forms.proofs.TreesLemmas.{ended_took, ended_failed, ended_missed, row_took, row_first}
+use Rattle.hs_expression_forms.proofs.TreesLemmas.{row_second}
 use Rattle.hs_expression_forms.proofs.TreesLemmas.{behind_made, behind_made_failed, made_over, made_took, made_failed}
 use Rattle.hs_expression_forms.proofs.TreesLemmas.{stays_first}
 use Rattle.hs_expression_forms.proofs.OperandLayerLemmas.{Apply, make_apply}

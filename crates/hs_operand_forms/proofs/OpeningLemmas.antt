@@ -26,7 +26,8 @@ use Rattle.hs_expression_forms.specs.Expressions.{aexps, depth_of_exp, depth_of_
 use Rattle.hs_expression_forms.specs.Fronts.{Inside, insides}
 use Rattle.hs_expression_forms.specs.Links.{first_pieces, sign_of, pieces_of_link}
 use Rattle.hs_expression_forms.proofs.TreesLemmas.{behind_took, made_took, made_refuses}
-use Rattle.hs_expression_forms.proofs.LinkLayerLemmas.{negated_of, operand_of, infix_spelled, signed_spelled, infix_deep}
+use Rattle.hs_expression_forms.proofs.LinkLayerLemmas.{negated_of, operand_of, infix_spelled, signed_spelled}
+use Rattle.hs_expression_forms.proofs.LinkLayerLemmas.{infix_deep}
 use Rattle.hs_expression_forms.proofs.LinkReturnLemmas.{operand_not_minus}
 use Rattle.hs_expression_forms.proofs.FrontLemmas.{ExpCase, is_plain, is_typed, exp_case, plain_spelled, plain_deep}
 use Rattle.hs_expression_forms.proofs.FrontLemmas.{typed_deep}
@@ -136,7 +137,8 @@ not_special [] a b c = refl
 not_special (k ∷ ts) a b c = ap (λ x. x || (is_symbol k || is_backquote k)) a ∙ ap (λ x. x || is_backquote k) b ∙ c
 
 -- what begins with a sign has depth
-sign_deep : (b : Bool) (x : OperandTree) (tail : Ts) → begins is_minus (sign_tokens b ++ (spelling_operand x ++ tail)) ≡ true →
+sign_deep : (b : Bool) (x : OperandTree) (tail : Ts) → begins is_minus (sign_tokens b ++ (spelling_operand x ++
+    tail)) ≡ true →
     (n : ℕ) → length (sign_of b x) ≤ n → 1 ≤ n
 sign_deep true x tail h n le = omega (arith, le)
 sign_deep false x tail h n le = absurd (operand_not_minus x tail (spelling_operand x ++ tail) refl h)
@@ -167,7 +169,8 @@ exp_minus e more h = by (exp_case e)
 
 pub inside_minus : (i : Inside) (after : Ts) → begins is_minus (insides.tokens i ++ after) ≡ true → 1 ≤ insides.deep i
 inside_minus (inl p) after h =
-    let deep = exp_minus p.0 (flat_map (λ x. t.Comma ∷ spelling_exp x) p.1 ++ (t.RightParen ∷ after)) (sym (ap (begins is_minus)
+    let deep = exp_minus p.0 (flat_map (λ x. t.Comma ∷ spelling_exp x) p.1 ++ (t.RightParen ∷ after)) (sym (ap
+    (begins is_minus)
     (append_assoc (spelling_exp p.0 ++ flat_map (λ x. t.Comma ∷ spelling_exp x) p.1) (t.RightParen ∷ []) after
     ∙ append_assoc (spelling_exp p.0) (flat_map (λ x. t.Comma ∷ spelling_exp x) p.1) (t.RightParen ∷ after))) ∙ h) in
     omega (arith, deep)
