@@ -24,7 +24,8 @@ use Rattle.hs_scopes.specs.Words.{word_of}
 use Rattle.import_resolve.specs.ImportLists.{sub_name}
 use Rattle.import_resolve.specs.Scopes.{ScopeFault}
 use Rattle.hs_scopes.specs.Meanings.{candidates}
-use Rattle.import_resolve.specs.Exports.{Thing, asked, named, qvar_name, main_name, AreThose, IsFirst, thing_of}
+use Rattle.import_resolve.specs.declared.thing.Thing.{Thing}
+use Rattle.import_resolve.specs.Exports.{asked, named, qvar_name, main_name, AreThose, IsFirst, thing_of}
 use Rattle.import_resolve.specs.Exports.{con_thing, thing_named, con_there, cons_there, subs_there, both_names}
 use Rattle.import_resolve.specs.Exports.{export_gives, offered, no_clash, export_of, heads}
 use Rattle.import_resolve.specs.Laws.{ExportsAreExact}

@@ -7,7 +7,7 @@ use Rattle.std.specs.Cmp.Lexicographic.{slice_cmp}
 use Rattle.std.specs.declared.cmp.Ordering.{Ordering}
 use Rattle.std.specs.declared.cmp.Ordering.TheVariants.{Less, Equal, Greater}
 use Rattle.bp_base.specs.Texts.{Text}
-use Rattle.bp_base.specs.Lists.{Among}
+use Rattle.bp_base.specs.Lists.{Among, is_among}
 use Rattle.bp_checks.specs.Check.{Check, ◌>>=◌, given, each, refusing}
 use Rattle.bp_base.specs.declared.ty.Space.{Space}
 use Rattle.bp_base.specs.declared.ty.Space.TheVariants.{Types, Values}
@@ -28,16 +28,12 @@ use Rattle.hs_scopes.specs.declared.scope.Scope.{Scope}
 use Rattle.hs_scopes.specs.Words.{word_of, is_empty}
 use Rattle.hs_scopes.specs.declared.scope.MeaningFault.{MeaningFault}
 use Rattle.hs_scopes.specs.declared.scope.MeaningFault.TheVariants as mf
+use Rattle.import_resolve.specs.declared.thing.Thing.{Thing}
 use Rattle.import_resolve.specs.ImportLists.{sub_name}
 use Rattle.import_resolve.specs.Scopes.{ScopeFault, import_name, implicit_imports, written_imports, module_name}
 use Rattle.hs_scopes.specs.Meanings.{name_meant, candidates, meaning_of, name_of, is_types}
 
 -- ---- what is exported: a name and what it means, the entity, or its constructor where that is not empty
-
-pub record Thing : Type 0 where
-  pub occ : Text
-  pub entity : Entity
-  pub con : Text
 
 abbrev pub things_of : Export → List Thing
 things_of e = record { occ = e.occ; entity = e.entity; con = [] }
@@ -132,9 +128,12 @@ subs_there items e (s.Only names) = each names (λ done c. con_there items e (su
 
 -- ---- `module X`: what is in scope both as `e` and as `X.e`
 
+-- the names before the dot: the module's own, and that of each import
+abbrev pub qualifiers : Module → List Text
+qualifiers x = module_name x ∷ map import_name (implicit_imports x ++ written_imports x)
+
 abbrev pub is_qualifier : Module → Text → Bool
-is_qualifier x name = bytes_eq name (module_name x) || list_any (λ d. bytes_eq (import_name d) name)
-    (implicit_imports x ++ written_imports x)
+is_qualifier x name = is_among name (qualifiers x)
 
 -- a plain item of that name means the same
 abbrev pub SamePlain : ScopeItem → ScopeItem → Type 0
@@ -217,14 +216,14 @@ then_by Less o = Less
 then_by Equal o = o
 then_by Greater o = Greater
 
--- types before values, each by occurrence
+-- types before values, each by occurrence; of two of one name the first stays
 abbrev pub export_order : Export → Export → Ordering
 export_order a b = then_by (space_order (is_types (name_of a.entity).space) (is_types (name_of b.entity).space))
     (slice_cmp nat_cmp a.occ b.occ)
 
 abbrev pub inserted_by : Ordering → Export → Export → List Export → List Export → List Export
 inserted_by Less a b rest inner = a ∷ b ∷ rest
-inserted_by Equal a b rest inner = b ∷ rest
+inserted_by Equal a b rest inner = a ∷ rest
 inserted_by Greater a b rest inner = b ∷ inner
 
 abbrev pub inserted : Export → List Export → List Export

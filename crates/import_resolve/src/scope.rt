@@ -201,7 +201,7 @@ fn sig_block_names_prelude(block: &SigBlock) -> bool
 }
 
 /// Whether a written import names `Prelude`.
-fn is_prelude_written(module: &Module) -> bool
+pub fn is_prelude_written(module: &Module) -> bool
     ensures { result ≡ list_any names_prelude (written_imports «module».now) }
 {
     match module {

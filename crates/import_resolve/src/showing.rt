@@ -23,7 +23,7 @@ pub struct ShowingTable {
 }
 
 /// The original name of an entity.
-fn name_of(entity: &Entity) -> &OrigName
+pub fn name_of(entity: &Entity) -> &OrigName
     ensures { result.now ≡ name_of entity.now }
 {
     match entity {
