@@ -1,0 +1,6 @@
+//! Written names, taken apart.
+#![tactic(auto)]
+
+mod word;
+
+pub use word::{WrittenName, written_name};
