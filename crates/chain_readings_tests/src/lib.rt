@@ -1,0 +1,5 @@
+//! Tables of chains of operators and their readings.
+#![tactic(auto)]
+
+#[cfg(test)]
+mod tests;

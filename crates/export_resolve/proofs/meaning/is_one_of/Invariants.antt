@@ -1,0 +1,6 @@
+use Rattle.std.proofs.Common.{◌≡◌, drop}
+use Rattle.export_resolve.specs.Found.{is_one_of}
+use Rattle.export_resolve.proofs.meaning.is_one_of.Given as goal
+
+abbrev pub invariant-loop-other : goal.invariant-loop-other
+invariant-loop-other l = is_one_of l.name (drop l.other-index l.names) ≡ is_one_of l.name l.names
