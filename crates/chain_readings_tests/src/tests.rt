@@ -9,7 +9,11 @@ use std::alloc::{AllocError, Global};
 use std::test::Fail;
 
 fn digit(byte: u8) -> u8 {
-    if byte.is_ascii_digit() { byte - b'0' } else { 0 }
+    if byte.is_ascii_digit() {
+        byte - b'0'
+    } else {
+        0
+    }
 }
 
 fn fixity(assoc: u8, level: u8) -> Fixity {
