@@ -1,6 +1,6 @@
 -- Constructors: a name with its fields, or an operator between two sides, whichever the tokens go on as.
 use Rattle.std.proofs.Common.{◌≡◌, ℕ, zero, Bool, true, false, List, [], ◌∷◌, ◌++◌, length, refl, sym, ap, ◌∙◌, arith}
-use Rattle.std.proofs.Common.{true≢false, subst}
+use Rattle.std.proofs.Common.{true≢false, subst, drop}
 use Rattle.std.specs.Prelude.{max, map, min, codes, Option, None, ◌||◌, ◌&&◌}
 use Rattle.std.proofs.lemmas.Bool.{and_from}
 use Rattle.hs_forms.specs.Reading.{begins, SameStart}
@@ -192,3 +192,9 @@ constrs_are = record { starts = λ x. refl; apart = λ x k e. bar_stops k e }
 
 abbrev pub constr_chain : Option ℕ → Chain Terminal (ConstrTree × List ConstrTree) ConstrTree ConstrTree
 constr_chain limit = list_chain constrs (t.Bar ∷ []) is_bar constrs_are None limit
+
+-- the bar that stands here
+pub bar_led : (ts : Ts) → begins is_bar ts ≡ true → ts ≡ t.Bar ∷ drop 1 ts
+bar_led [] h = absurd (true≢false (sym h))
+bar_led (t.Bar ∷ ts) h = refl
+bar_led (_ ∷ ts) h = absurd (true≢false (sym h))

@@ -28,13 +28,15 @@ use Rattle.hs_modules.specs.declared.declarations.ConstrSide.{ConstrSide}
 use Rattle.hs_modules.specs.declared.declarations.ConstrSide.TheVariants as v_side
 use Rattle.hs_modules.specs.declared.names.ConTree.{ConTree}
 use Rattle.hs_modules.proofs.PartDepthLemmas.{type_depth_is}
-use Rattle.hs_expression_forms.specs.Trees.{within}
+use Rattle.hs_forms.specs.declared.fault.Fault.{Fault}
+use Rattle.hs_expression_forms.specs.Trees.{Trees, Took, Failed, within}
+use Rattle.hs_expression_forms.proofs.TreesLemmas.{behind_took, behind_failed, stays_first}
 use Rattle.hs_block_forms.specs.Combined.{Heads}
 use Rattle.hs_block_forms.proofs.CombinedLemmas.{headed_chain}
 use Rattle.hs_declaration_forms.specs.Datatypes.{is_bang, starts_field, cons, fields, stricts, atypes, btypes, sides}
 use Rattle.hs_declaration_forms.specs.Datatypes.{side_depth, PrefixParts}
-use Rattle.hs_declaration_forms.proofs.MadeLemmas.{begins_none}
-use Rattle.hs_declaration_forms.proofs.MergeLemmas.{Joins}
+use Rattle.hs_declaration_forms.proofs.MadeLemmas.{begins_none, stays_off}
+use Rattle.hs_declaration_forms.proofs.MergeLemmas.{Joins, joined_took, joined_failed}
 
 -- the depth of the extent of a `btype` and of an `atype`
 pub btype_depth_is : (x : BTypeTree) → (extent_of_btype x).depth ≡ depth_of_btype x
@@ -101,7 +103,7 @@ strict_fields = record {
   deep = λ x. refl;
   extends = λ x k e. refl;
   starts = λ x after g. refl;
-  only = λ f after g e. only f.strict f.atype after g e;
+  only = λ f after g q e. only f.strict f.atype after g e;
 }
   where
     only : (b : Bool) (x : ATypeTree) (after : Ts) → is_atype x ≡ true →
@@ -117,7 +119,7 @@ lazy_fields = record {
   deep = λ x. refl;
   extends = λ x k e. refl;
   starts = λ x after g. ap not (atype_plain x after);
-  only = λ f after g e. only f.strict f.atype after g e;
+  only = λ f after g q e. only f.strict f.atype after g e;
 }
   where
     only : (b : Bool) (x : ATypeTree) (after : Ts) → is_atype x ≡ true →
@@ -134,7 +136,7 @@ strict_sides = record {
   deep = λ x. refl;
   extends = λ x k e. refl;
   starts = λ x after g. refl;
-  only = only;
+  only = λ y after g q e. only y after g e;
 }
   where
     only : (y : ConstrSide) (after : Ts) → sides.formed y ≡ true → begins is_bang (side_tokens y ++ after) ≡ true →
@@ -149,7 +151,7 @@ lazy_sides = record {
   deep = λ x. refl;
   extends = λ x k e. e;
   starts = λ x after g. ap not (btype_plain x after);
-  only = only;
+  only = λ y after g q e. only y after g e;
 }
   where
     only : (y : ConstrSide) (after : Ts) → sides.formed y ≡ true →
@@ -157,6 +159,30 @@ lazy_sides = record {
         (x : BTypeTree) × (y ≡ v_side.Lazy x) × (btypes.formed x ≡ true)
     only (v_side.Strict x) after g e = absurd (true≢false (sym e))
     only (v_side.Lazy x) after g e = (x, refl, g)
+
+-- with a `!`, and without
+module _ {T : Type 0} (whole : Trees Terminal T) (make : ATypeTree → T)
+    (j : Joins whole stricts make (begins is_bang)) (limit : Option ℕ) (ts next : Ts)
+    (at : ts ≡ t.VarSym (codes "!") ∷ next) where
+  pub strict_took : (x : ATypeTree) (rest : Ts) (m : ℕ) → Took atypes limit next x rest m →
+      Took whole limit ts (make x) rest m
+  strict_took x rest m acc =
+      joined_took whole stricts make (begins is_bang) j limit ts x rest m
+      (behind_took atypes limit (t.VarSym (codes "!")) ts next x rest m at acc)
+
+  pub strict_failed : (e : Fault) → Failed atypes limit next e → Failed whole limit ts e
+  strict_failed e r =
+      joined_failed whole stricts make (begins is_bang) j limit ts e (stays_first is_bang ts (ap (begins is_bang) at))
+      (behind_failed atypes limit (t.VarSym (codes "!")) ts next e at r)
+
+module _ {P T : Type 0} (whole : Trees Terminal T) (part : Trees Terminal P) (make : P → T)
+    (j : Joins whole part make (begins_none is_bang)) (limit : Option ℕ) (ts : Ts) where
+  pub lazy_took : (x : P) (rest : Ts) (m : ℕ) → Took part limit ts x rest m → Took whole limit ts (make x) rest m
+  lazy_took x rest m acc = joined_took whole part make (begins_none is_bang) j limit ts x rest m acc
+
+  pub lazy_failed : begins is_bang ts ≡ false → (e : Fault) → Failed part limit ts e → Failed whole limit ts e
+  lazy_failed off e r =
+      joined_failed whole part make (begins_none is_bang) j limit ts e (stays_off is_bang ts off) r
 
 -- the fields behind a constructor's name, as a chain
 from_atype : (ts : Ts) → begins starts_atype ts ≡ true → begins starts_field ts ≡ true

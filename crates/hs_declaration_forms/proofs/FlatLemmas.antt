@@ -1,5 +1,5 @@
 -- Trees without depth, as a kind of trees.
-use Rattle.std.proofs.Common.{◌≡◌, ℕ, true, false, List, [], ◌∷◌, ◌++◌, refl, sym, ap, ◌∙◌, subst, arith}
+use Rattle.std.proofs.Common.{◌≡◌, ℕ, Bool, true, false, List, [], ◌∷◌, ◌++◌, refl, sym, ap, ◌∙◌, subst, arith}
 use Rattle.std.specs.Prelude.{Option, map, Result, Ok, Err}
 use Rattle.hs_forms.specs.Reading.{Form}
 use Rattle.hs_forms.specs.Limits.{Within, deepest, all_of}
@@ -13,7 +13,8 @@ use Rattle.hs_readers.specs.Answers.{Answers}
 use Rattle.hs_readers.specs.declared.read.Read.{Read}
 use Rattle.hs_headers.specs.Lists.{flat}
 use Rattle.hs_expression_forms.specs.Trees.{Trees, within, sort_of, Took, Failed}
-use Rattle.hs_expression_forms.proofs.TreesLemmas.{reads_same, refuses_same}
+use Rattle.hs_expression_forms.proofs.TreesLemmas.{reads_same, refuses_same, Stays}
+use Rattle.hs_declaration_forms.proofs.MergeLemmas.{Joins, joined_took, joined_failed}
 
 -- A kind of trees is a form of trees without depth.
 pub record Flat {T : Type 0} (form : Form Terminal T) (a : Trees Terminal T) : Type 0 where
@@ -48,6 +49,15 @@ pub flat_answers : {T : Type 0} (form : Form Terminal T) (a : Trees Terminal T) 
     (ts : Ts) (r : Result (Read T) Fault) → Answers (flat form) ts r → Answers (sort_of a limit) ts r
 flat_answers form a f limit ts (Ok r) acc = flat_took form a f limit ts r.tree r.rest.now r.depth acc
 flat_answers form a f limit ts (Err e) r = flat_failed form a f limit ts e r
+
+-- the answer of a reader of some trees that certain tokens begin, among all
+pub joined_answers : {T : Type 0} (whole part : Trees Terminal T) (test : Ts → Bool)
+    (j : Joins whole part (λ x. x) test) (limit : Option ℕ) (ts : Ts) → Stays test ts →
+    (r : Result (Read T) Fault) → Answers (sort_of part limit) ts r → Answers (sort_of whole limit) ts r
+joined_answers whole part test j limit ts stays (Ok r) acc =
+    joined_took whole part (λ x. x) test j limit ts r.tree r.rest.now r.depth acc
+joined_answers whole part test j limit ts stays (Err e) r =
+    joined_failed whole part (λ x. x) test j limit ts e stays r
 
 -- lists of trees without depth, each of which is well formed
 pub none_deep : {X : Type 0} (xs : List X) → deepest (map (λ x. 0) xs) ≡ 0

@@ -22,8 +22,8 @@ pub record Joins {K P T : Type 0} (whole : Trees K T) (part : Trees K P) (make :
   pub deep : (p : P) → whole.deep (make p) ≡ part.deep p
   pub extends : (p : P) (k : K) → whole.extends (make p) k ≡ false → part.extends p k ≡ false
   pub starts : (p : P) (after : List K) → part.formed p ≡ true → test (part.tokens p ++ after) ≡ true
-  pub only : (x : T) (after : List K) → whole.formed x ≡ true → test (whole.tokens x ++ after) ≡ true →
-      (p : P) × (x ≡ make p) × (part.formed p ≡ true)
+  pub only : (x : T) (after : List K) → whole.formed x ≡ true → begins (whole.extends x) after ≡ false →
+      test (whole.tokens x ++ after) ≡ true → (p : P) × (x ≡ make p) × (part.formed p ≡ true)
 
 module _ {K P T : Type 0} (whole : Trees K T) (part : Trees K P) (make : P → T) (test : List K → Bool)
     (j : Joins whole part make test) (limit : Option ℕ) where
@@ -48,7 +48,7 @@ module _ {K P T : Type 0} (whole : Trees K T) (part : Trees K P) (make : P → T
       good = there p acc.reads.good;
       only = λ s other after same g quiet e.
           let e' : part.tokens p ++ s ≡ whole.tokens other ++ after = ap (λ l. l ++ s) (sym (j.tokens p)) ∙ e in
-          let q = j.only other after g.0 (ap test (sym e') ∙ j.starts p s acc.reads.good.0) in
+          let q = j.only other after g.0 quiet (ap test (sym e') ∙ j.starts p s acc.reads.good.0) in
           let found = acc.reads.only s q.0 after same (back other q.0 q.1 q.2 g) (quiet_part other q.0 after q.1 quiet)
           (e' ∙ ap (λ o. whole.tokens o ++ after) q.1 ∙ ap (λ l. l ++ after) (j.tokens q.0)) in
           (q.1 ∙ ap make found.0, found.1);
@@ -63,7 +63,7 @@ module _ {K P T : Type 0} (whole : Trees K T) (part : Trees K P) (make : P → T
       (λ before bad split q. record {
         begun = (q.begun.0, make q.begun.1, there q.begun.1 q.begun.2, q.begun.3 ∙ sym (j.tokens q.begun.1));
         never = λ s other after same g quiet e.
-            let o = j.only other after g.0 (ap test (sym e) ∙ stays before bad s split same) in
+            let o = j.only other after g.0 quiet (ap test (sym e) ∙ stays before bad s split same) in
             q.never s o.0 after same (back other o.0 o.1 o.2 g) (quiet_part other o.0 after o.1 quiet)
             (e ∙ ap (λ y. whole.tokens y ++ after) o.1 ∙ ap (λ l. l ++ after) (j.tokens o.0));
       }) r
