@@ -31,7 +31,7 @@ synonym name params ty = record { name = name; params = params; ty = ty }
 abbrev pub head_front : Terminal → List ℕ → List (List ℕ) → Ts
 head_front word name params = word ∷ t.Con name ∷ (map t.Var params ++ t.Equals ∷ [])
 
-same_params : (ps qs : List (List ℕ)) (s b after : Ts) →
+pub same_params : (ps qs : List (List ℕ)) (s b after : Ts) →
     (map t.Var ps ++ t.Equals ∷ []) ++ s ≡ (map t.Var qs ++ t.Equals ∷ b) ++ after → qs ≡ ps
 same_params [] [] s b after e = refl
 same_params [] (q ∷ qs) s b after e = absurd cc
@@ -44,7 +44,7 @@ same_params (p ∷ ps) (q ∷ qs) s b after e =
 abbrev pub goes_on : Terminal → Bool
 goes_on k = is_var k || is_equals k
 
-behind_params : (ps qs : List (List ℕ)) (s b after : Ts) →
+pub behind_params : (ps qs : List (List ℕ)) (s b after : Ts) →
     map t.Var ps ++ s ≡ (map t.Var qs ++ t.Equals ∷ b) ++ after → begins goes_on s ≡ true
 behind_params [] [] s b after e = ap (begins goes_on) e
 behind_params [] (q ∷ qs) s b after e = ap (begins goes_on) e
@@ -53,7 +53,7 @@ behind_params (p ∷ ps) (q ∷ qs) s b after e =
     let tails : map t.Var ps ++ s ≡ (map t.Var qs ++ t.Equals ∷ b) ++ after = cc in
     behind_params ps qs s b after tails
 
-ends : (ts : Ts) → begins is_var ts ≡ false → begins is_equals ts ≡ false → begins goes_on ts ≡ false
+pub ends : (ts : Ts) → begins is_var ts ≡ false → begins is_equals ts ≡ false → begins goes_on ts ≡ false
 ends [] p q = refl
 ends (k ∷ ts) p q = ap (λ b. b || is_equals k) p ∙ q
 

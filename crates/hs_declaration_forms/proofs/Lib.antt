@@ -1,0 +1,17 @@
+pub mod FlatLemmas
+pub mod MadeLemmas
+pub mod MergeLemmas
+pub mod ListLemmas
+pub mod OpLemmas
+pub mod FixityLemmas
+pub mod DeclLayerLemmas
+pub mod TypingLemmas
+pub mod PlainLemmas
+pub mod CrossLemmas
+pub mod ConLemmas
+pub mod FieldLemmas
+pub mod ConstrLemmas
+pub mod NamedLemmas
+pub mod DataLemmas
+pub mod NewtypeLemmas
+pub mod TypeDeclLemmas

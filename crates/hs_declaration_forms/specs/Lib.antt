@@ -1,0 +1,3 @@
+pub mod Typings
+pub mod Crossing
+pub mod Datatypes
