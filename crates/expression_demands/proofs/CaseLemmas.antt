@@ -1,5 +1,5 @@
 -- Case expressions and their alternatives (Haskell 2010 Report, section 3.13).
-use Rattle.std.proofs.Common.{◌≡◌, refl, sym, ap, ap₂, subst, ◌∙◌, ℕ, List, [], ◌∷◌, ◌++◌}
+use Rattle.std.proofs.Common.{◌≡◌, refl, sym, ap₂, subst, ◌∙◌, ℕ, List, [], ◌∷◌, ◌++◌}
 use Rattle.std.proofs.lemmas.Option.{slice_get_within}
 use Rattle.std.specs.Prelude.{Some, slice_get, length}
 use denote.Hole.Carrier.{hidden, out}
@@ -8,7 +8,6 @@ use Rattle.hs_core.specs.declared.tree.Exp.TheVariants.{Case}
 use Rattle.hs_core.specs.declared.tree.Rhs.{Rhs}
 use Rattle.hs_core.specs.declared.tree.Alt.{Alt, Alt', out-Alt}
 use Rattle.hs_core.specs.declared.tree.Decl.TheBlock.{hidden-the_row-Exp-0, hidden-the_row-Alt-3}
-use Rattle.type_terms.specs.Terms.{var}
 use Rattle.hs_core.specs.Types.{star, TypeTerm, any}
 use Rattle.hs_core.specs.Schemes.{Bound, monomorphic}
 use Rattle.hs_core.specs.Globals.{Globals}

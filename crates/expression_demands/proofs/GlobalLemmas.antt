@@ -1,7 +1,7 @@
 -- Names: those of modules, at an instance of their declared type, and locals that nothing binds.
-use Rattle.std.proofs.Common.{◌≡◌, refl, sym, ap, subst, ◌∙◌, ℕ, ◌+◌, true, List, [], ◌∷◌, ◌++◌, map, true≢false, inl, inr}
+use Rattle.std.proofs.Common.{◌≡◌, refl, sym, ap, subst, ◌∙◌, ℕ, ◌+◌, true, List, [], ◌∷◌, map, true≢false, inl, inr}
 use Rattle.std.proofs.Common.{arith}
-use Rattle.std.proofs.lemmas.List.{length-append, length-map}
+use Rattle.std.proofs.lemmas.List.{length-map}
 use Rattle.std.proofs.lemmas.List.FromFn.{length-range_with_len}
 use Rattle.std.proofs.lemmas.Option.{slice_get_within, same_Some}
 use Rattle.std.specs.Prelude.{Some, slice_get, length}
@@ -10,7 +10,7 @@ use Rattle.bp_base.specs.Texts.{Text}
 use Rattle.hs_core.specs.declared.tree.Exp.{Exp}
 use Rattle.hs_core.specs.declared.tree.Exp.TheVariants.{Local, Global}
 use Rattle.type_terms.specs.Terms.{var, applied, occurs_in}
-use Rattle.hs_core.specs.Types.{KindTerm, star, TypeTerm, TypeAssignment, any, type_term}
+use Rattle.hs_core.specs.Types.{KindTerm, star, TypeTerm, TypeAssignment, type_term}
 use Rattle.hs_core.specs.Kinds.{kind_at}
 use Rattle.hs_core.specs.Schemes.{Bound, IsDeclared}
 use Rattle.hs_core.specs.Globals.{Globals, plain_names}

@@ -1,7 +1,6 @@
 -- Right sides without local declarations, their choices and guards (Haskell 2010 Report, sections 3.13 and 4.4.3).
 use Rattle.std.proofs.Common.{◌≡◌, refl, sym, ap, ap₂, subst, ◌∙◌, ℕ, List, [], ◌∷◌, ◌++◌}
 use Rattle.std.proofs.lemmas.List.{append_assoc}
-use Rattle.std.proofs.lemmas.Option.{slice_get_within}
 use Rattle.std.specs.Prelude.{Some, slice_get, length}
 use denote.Hole.Carrier.{hidden, roll}
 use Rattle.hs_core.specs.declared.tree.Exp.{Exp}
@@ -13,7 +12,6 @@ use Rattle.hs_core.specs.declared.tree.Guard.{Guard}
 use Rattle.hs_core.specs.declared.tree.Guard.TheVariants.{Test, Bind}
 use Rattle.hs_core.specs.declared.tree.Decl.TheBlock.{hidden-the_row-Decl-2, hidden-the_row-Guard-4}
 use Rattle.hs_core.specs.declared.tree.Decl.TheBlock.{hidden-the_row-Choice-5}
-use Rattle.hs_core.specs.declared.group.IndexGroup.{IndexGroup}
 use Rattle.hs_core.specs.Groups.{AreGroups}
 use Rattle.hs_core.specs.Groups.DepthFirst.{ended}
 use Rattle.hs_core.specs.Groups.Grouped.{none}
@@ -23,13 +21,13 @@ use Rattle.type_terms.specs.Terms.{var}
 use Rattle.hs_core.specs.Types.{star, TypeTerm, any, boolean}
 use Rattle.hs_core.specs.Schemes.{Assumption, Bound, monomorphic}
 use Rattle.hs_core.specs.Globals.{Globals}
-use Rattle.hs_core.specs.Typing.{Kinds, HasType, IsRightSide, HaveChoices, GuardsBind, Binds}
+use Rattle.hs_core.specs.Typing.{Kinds, HasType, HaveChoices, GuardsBind, Binds}
 use Rattle.type_meaning.specs.Meanings.{LocalTypes, MeantTyping, MeantExtension, MeantGroups, only, MeantType}
-use Rattle.type_meaning.specs.Meanings.{declared_sets, MeantRightSide, MeantChoices, MeantGuards}
+use Rattle.type_meaning.specs.Meanings.{declared_sets, MeantChoices, MeantGuards}
 use Rattle.kind_check.proofs.DeclareLemmas.{head_same}
 use Rattle.type_equations.specs.States.{State, Guess, Meets, IsReady}
 use Rattle.type_equations.specs.declared.equations.Binder.{Binder}
-use Rattle.type_equations.specs.Demands.{Demand, typed_names, AllStar, Imposes, HasNone, IsLocal, equal, both}
+use Rattle.type_equations.specs.Demands.{typed_names, AllStar, Imposes, HasNone, IsLocal, equal, both}
 use Rattle.type_equations.specs.Demands.{with_types, some, with_unknowns}
 use Rattle.type_equations.specs.Syntax.{plain_boolean}
 use Rattle.type_equations.proofs.DemandLemmas.{agree-with, typed_names-agree, imposed_both, imposed_unknowns}

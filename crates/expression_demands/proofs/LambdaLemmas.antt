@@ -15,13 +15,13 @@ use Rattle.hs_core.specs.Types.{KindTerm, star, arrow, TypeTerm, any, function, 
 use Rattle.hs_core.specs.Kinds.{HasKind}
 use Rattle.hs_core.specs.Schemes.{Bound, monomorphic}
 use Rattle.hs_core.specs.Globals.{Globals, plain_names}
-use Rattle.hs_core.specs.Typing.{Kinds, HasType, BindEach}
+use Rattle.hs_core.specs.Typing.{HasType, BindEach}
 use Rattle.type_meaning.specs.Meanings.{only, MeantType}
 use Rattle.type_unify.specs.Types.{Plain}
 use Rattle.kind_check.proofs.DeclareLemmas.{head_same, tail_same}
-use Rattle.type_equations.specs.States.{State, Guess, Meets, IsReady}
+use Rattle.type_equations.specs.States.{State, Guess, Meets}
 use Rattle.type_equations.specs.declared.equations.Binder.{Binder}
-use Rattle.type_equations.specs.Demands.{Demand, typed_names, AllStar, equal, both, with_types, HaveKinds, some}
+use Rattle.type_equations.specs.Demands.{Demand, typed_names, AllStar, equal, both, with_types, some}
 use Rattle.type_equations.specs.Syntax.{KnowsSyntax, plain_function, plain_functions, plain_list, unknowns}
 use Rattle.type_equations.proofs.CodedLemmas.{kind_under-is}
 use Rattle.type_equations.proofs.SyntaxLemmas.{value-functions, value-unknowns}

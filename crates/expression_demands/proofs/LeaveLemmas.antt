@@ -1,15 +1,15 @@
 -- What is left to demand of a part of a tree, step by step.
-use Rattle.std.proofs.Common.{◌≡◌, refl, sym, ap, ap₂, subst, ◌∙◌, ℕ, List, [], ◌∷◌, ◌++◌}
+use Rattle.std.proofs.Common.{◌≡◌, refl, sym, ap, subst, ◌∙◌, ℕ, List, [], ◌∷◌, ◌++◌}
 use Rattle.std.proofs.lemmas.List.{append-nil, append_assoc, map-append}
 use Rattle.std.specs.Prelude.{length}
 use Rattle.hs_core.specs.Types.{KindTerm}
-use Rattle.hs_core.specs.Schemes.{Assumption, Bound, monomorphic}
+use Rattle.hs_core.specs.Schemes.{Bound, monomorphic}
 use Rattle.hs_core.specs.Globals.{Globals}
 use Rattle.type_unify.specs.Types.{Plain}
 use Rattle.type_meaning.specs.Meanings.{LocalTypes, only}
 use Rattle.type_equations.specs.States.{State, Guess, Meets, IsReady, Equated, NotEqual}
 use Rattle.type_equations.specs.declared.equations.Binder.{Binder}
-use Rattle.type_equations.specs.Demands.{Demand, typed_names, Agree, Imposes, HasNone, IsLocal, equal, both}
+use Rattle.type_equations.specs.Demands.{Demand, typed_names, Imposes, HasNone, IsLocal, equal, both}
 use Rattle.type_equations.specs.Demands.{some, with_unknowns}
 use Rattle.expression_demands.specs.Leaving.{Leaves, under, seen, IsLocalUnder}
 use Rattle.type_equations.proofs.DemandLemmas.{imposed_equation, imposed_both, imposed_unknowns, imposed_so, none_equal}
