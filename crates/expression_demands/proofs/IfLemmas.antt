@@ -27,7 +27,7 @@ use Rattle.expression_demands.proofs.RowLemmas.{meant-proper}
 
 module _ (G : Globals) (a b c : Exp) (env : List Binder) (v : ℕ) (state : State)
     (s : slice_get state.kinds v ≡ Some star) where
-  if_gives : (g : Guess) (xs : List Bound) → Meets G g state
+  pub if_gives : (g : Guess) (xs : List Bound) → Meets G g state
       → both (equal (var (length state.kinds)) plain_boolean)
       (both (has_type G a env (length state.kinds)) (both (has_type G b env v) (has_type G c env v))) g xs
       → has_type G (If a b c) env v g xs
@@ -46,7 +46,7 @@ module _ (G : Globals) (a b c : Exp) (env : List Binder) (v : ℕ) (state : Stat
         q.1.4 ∙ ap₂ (λ x y. x ++ y) q.1.2.1 (r.4 ∙ ap₂ (λ x y. x ++ y) r.2.1 r.3.1),
       )
 
-  if_takes : AllStar state.kinds env → (g : Guess) (xs : List Bound) → Meets G g state
+  pub if_takes : AllStar state.kinds env → (g : Guess) (xs : List Bound) → Meets G g state
       → meant_type G (If a b c) env v g xs
       → some G state.kinds (star ∷ []) (both (equal (var (length state.kinds)) plain_boolean)
       (both (meant_type G a env (length state.kinds)) (both (meant_type G b env v) (meant_type G c env v)))) g xs

@@ -1,3 +1,9 @@
 pub mod FormLemmas
 pub mod RowLemmas
 pub mod IfLemmas
+pub mod LeaveLemmas
+pub mod LocalLemmas
+pub mod LambdaLemmas
+pub mod GlobalLemmas
+pub mod CaseLemmas
+pub mod GuardLemmas

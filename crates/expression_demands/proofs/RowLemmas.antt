@@ -1,10 +1,13 @@
 -- Expressions in a row, and tuples.
-use Rattle.std.proofs.Common.{◌≡◌, refl, sym, ap, ap₂, subst, ◌∙◌, ℕ, ◌+◌, List, [], ◌∷◌, ◌++◌, map}
+use Rattle.std.proofs.Common.{◌≡◌, refl, sym, ap, ap₂, subst, ◌∙◌, ℕ, ◌+◌, ◌≤◌, List, [], ◌∷◌, ◌++◌, map}
 use Rattle.std.proofs.lemmas.List.{length-replicate}
 use Rattle.std.proofs.lemmas.Option.{slice_get_within}
-use Rattle.std.specs.Prelude.{Some, slice_get, length, replicate}
+use Rattle.std.specs.Prelude.{Some, slice_get, length, replicate, ◌≢◌}
 use Rattle.std.specs.List.{range_with_len}
 use denote.Hole.Carrier.{hidden}
+use Rattle.bp_base.specs.Specials.{special_name}
+use Rattle.bp_base.specs.declared.special.Special.TheVariants as s
+use Rattle.bp_base.specs.declared.ty.Space.TheVariants.{Types}
 use Rattle.hs_core.specs.declared.tree.Exp.{Exp}
 use Rattle.hs_core.specs.declared.tree.Exp.TheVariants.{Apply, Tuple, Local, Global, Int, Chr, Str, Apply', Lambda'}
 use Rattle.hs_core.specs.declared.tree.Exp.TheVariants.{Let', If'}
@@ -12,9 +15,10 @@ use Rattle.hs_core.specs.declared.tree.Exp.TheVariants.{Case', Tuple', List' as 
 use Rattle.hs_core.specs.declared.tree.Decl.TheBlock.{end_of-Exp, more_of-Exp, hidden-the_row-Exp-0}
 use Rattle.hs_core.specs.declared.tree.Decl.TheBlock.{hidden-the_row-Exp-1}
 use Rattle.type_terms.specs.Terms.{var}
-use Rattle.hs_core.specs.Types.{star, TypeTerm, any, functions, tuple_of}
+use Rattle.hs_core.specs.Types.{star, arrows, TypeTerm, any, functions, tuple_of, special_type, count}
+use Rattle.hs_core.specs.Kinds.{HasKind}
 use Rattle.hs_core.specs.Schemes.{Assumption, Bound, monomorphic}
-use Rattle.hs_core.specs.Globals.{Globals}
+use Rattle.hs_core.specs.Globals.{Globals, plain_names}
 use Rattle.hs_core.specs.Typing.{Kinds, IsProperType, HasType, HaveTypes}
 use Rattle.type_meaning.specs.Meanings.{LocalTypes, only, MeantType, MeantTypes}
 use Rattle.type_equations.specs.States.{State, Guess, Meets, IsReady, Equated}
@@ -22,11 +26,12 @@ use Rattle.type_equations.specs.declared.equations.Binder.{Binder}
 use Rattle.type_equations.specs.Demands.{typed_names, AllStar, Imposes, HasNone, IsLocal, equal, both}
 use Rattle.type_equations.specs.Demands.{HaveKinds, with_types, some, with_unknowns}
 use Rattle.kind_check.proofs.DeclareLemmas.{head_same, tail_same}
-use Rattle.type_equations.specs.Syntax.{plain_functions, plain_tuple, unknowns}
+use Rattle.kind_check.proofs.ScopeLemmas.{count-length}
+use Rattle.type_equations.specs.Syntax.{KnowsSyntax, plain_functions, plain_tuple, unknowns}
 use Rattle.type_equations.proofs.SyntaxLemmas.{value-functions, value-tuple, value-unknowns}
 use Rattle.type_equations.proofs.DemandLemmas.{imposed_both, imposed_so, none_first, none_later, none_so}
 use Rattle.type_equations.proofs.DemandLemmas.{agree-with, typed_names-agree}
-use Rattle.type_equations.proofs.UnknownLemmas.{have-length, unknowns_read}
+use Rattle.type_equations.proofs.UnknownLemmas.{have-length, unknowns_read, applied-kind}
 use Rattle.infer_patterns.proofs.PartsLemmas.{behind_equal, before_rest}
 use Rattle.expression_demands.proofs.FormLemmas.{form_imposes}
 use Rattle.expression_demands.specs.Expressions.{has_type, meant_type, EachHasType, EachIsMeant, have_types}
@@ -74,12 +79,12 @@ meant-each G kinds (e ∷ es) ls ts h = (h.0, h.1, h.2, h.3, meant-each G kinds 
 
 module _ (G : Globals) where
   -- one more expression in front of a row
-  next_gives : (e : Exp) (es : List Exp) (env : List Binder) (v : ℕ) (vs : List ℕ) (g : Guess) (xs : List Bound)
+  pub next_gives : (e : Exp) (es : List Exp) (env : List Binder) (v : ℕ) (vs : List ℕ) (g : Guess) (xs : List Bound)
       → both (has_type G e env v) (have_types G es env vs) g xs → have_types G (e ∷ es) env (v ∷ vs) g xs
   next_gives e es env v vs g xs t =
       ((g.types v, map g.types vs, refl, t.2.0, t.3.0), t.4 ∙ ap₂ (λ a b. a ++ b) t.2.1 t.3.1)
 
-  next_takes : (e : Exp) (es : List Exp) (env : List Binder) (v : ℕ) (vs : List ℕ) (g : Guess) (xs : List Bound)
+  pub next_takes : (e : Exp) (es : List Exp) (env : List Binder) (v : ℕ) (vs : List ℕ) (g : Guess) (xs : List Bound)
       → meant_types G (e ∷ es) env (v ∷ vs) g xs → both (meant_type G e env v) (meant_types G es env vs) g xs
   next_takes e es env v vs g xs t = (
     [],
@@ -273,3 +278,20 @@ module _ (G : Globals) where
       form_imposes G (has_type G (Tuple es) env v) (meant_type G (Tuple es) env v) (have_types G es env is)
       (meant_types G es env is) (var v) (plain_tuple (unknowns is)) [] state middle new (replicate (length es) star) r l
       (λ g xs m t. tuple_gives state es env v is s g xs m t) (λ g xs m t. tuple_takes state es env v b s g xs m t) e p
+
+  -- there are no tuples of one part, nor of more than 15
+  pub tuple_count_none : KnowsSyntax G → (state : State) (es : List Exp) (env : List Binder) (v : ℕ)
+      → ((length es ≤ 15) × (length es ≢ 1) → ⊥) → HasNone G (meant_type G (Tuple es) env v) state
+  tuple_count_none K state es env v n g xs m t =
+      let us = t.0.1 in
+      let ls = only (typed_names g env) [] in
+      let have = each-stars G g es ls us (meant-each G g.kinds es ls us t.0.3) in
+      let many : length us ≡ length es =
+      have-length G g us (replicate (length es) star) have ∙ length-replicate (length es) star in
+      n (subst (λ k. (k ≤ 15) × (k ≢ 1)) (count-length us ∙ many)
+      ((K.tuple (count us)).0
+      (subst (λ k. plain_names G (special_name Types (s.Tuple (count us))) (arrows (replicate k star) star))
+      (sym (count-length us))
+      (applied-kind G g us (special_type (s.Tuple (count us)))
+      (subst (λ k. HaveKinds G g us (replicate k star)) (sym many) have)
+      (subst (λ z. HasKind (plain_names G) g.kinds z star) t.0.2 t.0.0.1)))))

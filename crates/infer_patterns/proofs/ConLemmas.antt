@@ -50,10 +50,10 @@ length-range : (a m : ℕ) → length (range_with_len a m) ≡ m
 length-range a zero = refl
 length-range a (suc m) = ap suc (length-range (a + 1) m)
 
-zero-plus : (w : ℕ) → 0 + w ≡ w
+pub zero-plus : (w : ℕ) → 0 + w ≡ w
 zero-plus w = omega arith
 
-kind_at-some : (ks : List KindTerm) (i : ℕ) → i < length ks → slice_get ks i ≡ Some (kind_at ks i)
+pub kind_at-some : (ks : List KindTerm) (i : ℕ) → i < length ks → slice_get ks i ≡ Some (kind_at ks i)
 kind_at-some [] i l = absurd (omega (arith, l))
 kind_at-some (k ∷ ks) zero l = refl
 kind_at-some (k ∷ ks) (suc i) l = kind_at-some ks i (omega (arith, l))
@@ -92,7 +92,7 @@ module _ (G : Globals) where
 
   -- ---- kinds of the types that a choice gives
 
-  choice-kinds : (g : Guess) (choice : TypeAssignment) (a : ℕ) (ks : List KindTerm)
+  pub choice-kinds : (g : Guess) (choice : TypeAssignment) (a : ℕ) (ks : List KindTerm)
       → ((i : ℕ) (k : KindTerm) → slice_get ks i ≡ Some k → HasKind (plain_names G) g.kinds (choice (a + i)) k)
       → HaveKinds G g (map choice (range_with_len a (length ks))) ks
   choice-kinds g choice a [] h = refl
@@ -102,7 +102,7 @@ module _ (G : Globals) where
         subst (λ m. HasKind (plain_names G) g.kinds (choice m) j) e (h (suc i) j p)),
   )
 
-  slice_get-range : (choice : TypeAssignment) (a m i : ℕ) → i < m
+  pub slice_get-range : (choice : TypeAssignment) (a m i : ℕ) → i < m
       → slice_get (map choice (range_with_len a m)) i ≡ Some (choice (a + i))
   slice_get-range choice a zero i l = absurd (omega (arith, l))
   slice_get-range choice a (suc m) zero l = let e : a + 0 ≡ a = omega arith in ap (λ j. Some (choice j)) (sym e)
@@ -130,6 +130,25 @@ module _ (G : Globals) where
   shape-con : (n : OrigName) (o : Option ℕ) (k : ℕ) → HasShape G n o → o ≡ Some k
       → (c : Constructor) × HasConstructor G n c × (count c.fields ≡ k)
   shape-con n o k s e = subst (λ z. HasShape G n z) e s
+
+  -- the kinds of a scheme of the declared type are the least ones
+  scheme-kinds : (d : Declared) → Tells G d → (c : TypeScheme) → IsDeclared (plain_names G) (type_term d.ty) c → (i : ℕ)
+      → occurs_in i (type_term d.ty) ≡ true → c.kinds i ≡ kind_at (kinds_of_declared d) i
+  scheme-kinds d T c h i o = Below-both (c.kinds i) (kind_at (kinds_of_declared d) i)
+      (h.kinds.least (kind_at (kinds_of_declared d)) T.least.fit i o) (T.least.least c.kinds h.kinds.fit i o)
+
+  pub chosen-kinds : (d : Declared) → Tells G d → (g : Guess) (c : TypeScheme) (t : TypeTerm)
+      → IsDeclared (plain_names G) (type_term d.ty) c
+      → (b : IsInstance (plain_names G) g.kinds c t) → (i : ℕ) (k : KindTerm)
+      → slice_get (kinds_of_declared d) i ≡ Some k → HasKind (plain_names G) g.kinds (b.choice (0 + i)) k
+  chosen-kinds d T g c t h b i k e =
+      let ks = kinds_of_declared d in
+      let o = (T.variables i).1 (slice_get_within ks i k e) in
+      let z : 0 + i ≡ i = omega arith in
+      subst (λ j. HasKind (plain_names G) g.kinds (b.choice j) k) (sym z)
+      (subst (λ j. HasKind (plain_names G) g.kinds (b.choice i) j)
+      (scheme-kinds d T c h i o ∙ same_Some (kind_at ks i) k (sym (kind_at-some ks i (slice_get_within ks i k e)) ∙ e))
+      (b.kinded i (subst (λ y. occurs_in i y ≡ true) (sym h.body) o) (h.generic i)))
 
   module _ (state : State) (d : Declared) (T : Tells G d) (ps : List Pat) (f : d.fields ≡ Some (length ps)) (v : ℕ)
       (s : slice_get state.kinds v ≡ Some star) where
@@ -194,23 +213,6 @@ module _ (G : Globals) where
           (bind_all-each G g.kinds ps (map g.types parts) xs).1 q.1,
         )
 
-    -- the kinds of a scheme of the declared type are the least ones
-    scheme-kinds : (c : TypeScheme) → IsDeclared (plain_names G) (type_term d.ty) c → (i : ℕ)
-        → occurs_in i (type_term d.ty) ≡ true → c.kinds i ≡ kind_at ks i
-    scheme-kinds c h i o = Below-both (c.kinds i) (kind_at ks i) (h.kinds.least (kind_at ks) T.least.fit i o)
-        (T.least.least c.kinds h.kinds.fit i o)
-
-    chosen-kinds : (g : Guess) (c : TypeScheme) (t : TypeTerm) → IsDeclared (plain_names G) (type_term d.ty) c
-        → (b : IsInstance (plain_names G) g.kinds c t) → (i : ℕ) (k : KindTerm) → slice_get ks i ≡ Some k
-        → HasKind (plain_names G) g.kinds (b.choice (0 + i)) k
-    chosen-kinds g c t h b i k e =
-        let o = (T.variables i).1 (slice_get_within ks i k e) in
-        let z : 0 + i ≡ i = omega arith in
-        subst (λ j. HasKind (plain_names G) g.kinds (b.choice j) k) (sym z)
-        (subst (λ j. HasKind (plain_names G) g.kinds (b.choice i) j)
-        (scheme-kinds c h i o ∙ same_Some (kind_at ks i) k (sym (kind_at-some ks i (slice_get_within ks i k e)) ∙ e))
-        (b.kinded i (subst (λ y. occurs_in i y ≡ true) (sym h.body) o) (h.generic i)))
-
     con_takes : (g : Guess) (xs : List Bound) → Meets G g state → binds G (PCon d.name ps) v g xs
         → some G state.kinds ks (some G outer.kinds stars (both (equal own wanted) row)) g xs
     con_takes g xs m t =
@@ -238,7 +240,7 @@ module _ (G : Globals) where
         sym (spliced-front outer.kinds t.3 middle.types v (omega (arith, below, l)))
         ∙ sym (spliced-front state.kinds us g.types v l) in (
           us,
-          choice-kinds g choice 0 ks (λ i k e. chosen-kinds g t.4.scheme _ declared t.4.built i k e),
+          choice-kinds g choice 0 ks (λ i k e. chosen-kinds d T g t.4.scheme _ declared t.4.built i k e),
           (
             t.3,
             have,

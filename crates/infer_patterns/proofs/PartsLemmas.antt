@@ -158,16 +158,16 @@ module _ (G : Globals) where
   abbrev pub list_type : State → Plain
   list_type state = plain_list (var (length state.kinds))
 
-  all_same : (f : ℕ → TypeTerm) (n m : ℕ) → AllAre (f n) (map f (replicate m n))
+  pub all_same : (f : ℕ → TypeTerm) (n m : ℕ) → AllAre (f n) (map f (replicate m n))
   all_same f n zero = tt
   all_same f n (suc m) = (refl, all_same f n m)
 
-  same_all : (f : ℕ → TypeTerm) (n : ℕ) (u : TypeTerm) (us : List TypeTerm) → u ≡ f n → AllAre u us
+  pub same_all : (f : ℕ → TypeTerm) (n : ℕ) (u : TypeTerm) (us : List TypeTerm) → u ≡ f n → AllAre u us
       → map f (replicate (length us) n) ≡ us
   same_all f n u [] e h = refl
   same_all f n u (t ∷ us) e h = ap₂ (λ x xs. x ∷ xs) (sym e ∙ sym h.0) (same_all f n u us e h.1)
 
-  item_read : (state : State) (u : TypeTerm) (g : Guess)
+  pub item_read : (state : State) (u : TypeTerm) (g : Guess)
       → (with_types state.kinds (u ∷ []) g).types (length state.kinds) ≡ u
   item_read state u g = head_same _ _ _ _ (unknowns_read state.kinds (u ∷ []) g.types)
 
@@ -185,7 +185,7 @@ module _ (G : Globals) where
       )
 
   -- the items of a list have kind `*`
-  item_kind : KnowsSyntax G → (g : Guess) (u : TypeTerm) → HasKind (plain_names G) g.kinds (list_of u) star
+  pub item_kind : KnowsSyntax G → (g : Guess) (u : TypeTerm) → HasKind (plain_names G) g.kinds (list_of u) star
       → HasKind (plain_names G) g.kinds u star
   item_kind K g u h = subst (λ j. HasKind (plain_names G) g.kinds u j)
       (ap parameter (sym (kind_under-is G g.kinds (special_type s.List) (arrow h.0 star) h.1)

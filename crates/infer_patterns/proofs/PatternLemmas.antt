@@ -62,7 +62,7 @@ each-stars G g (p ∷ ps) ts bs h = subst (λ z. HaveKinds G g z (star ∷ repli
 
 -- ---- locality
 
-types-agree : (ks : List KindTerm) (vs : List ℕ) (g h : Guess) → AreStars ks vs → Agree (length ks) g h
+pub types-agree : (ks : List KindTerm) (vs : List ℕ) (g h : Guess) → AreStars ks vs → Agree (length ks) g h
     → map g.types vs ≡ map h.types vs
 types-agree ks [] g h s a = refl
 types-agree ks (v ∷ vs) g h s a = ap₂ (λ t ts. t ∷ ts) (a.types v (slice_get_within ks v star s.0))

@@ -21,7 +21,7 @@ abbrev pub RowLeft : List Declared → List Pat → List ℕ → ℕ → List Bi
 RowLeft names ps vs i before after old now = (G : Globals) → Knows G names → IsReady G old → AreStars old.kinds vs
     → Remains G ps vs (drop i ps) (drop i vs) before after old now
 
-stars-grown : (ks js : List KindTerm) (vs : List ℕ) → AreStars ks vs → AreStars (ks ++ js) vs
+pub stars-grown : (ks js : List KindTerm) (vs : List ℕ) → AreStars ks vs → AreStars (ks ++ js) vs
 stars-grown ks js [] h = tt
 stars-grown ks js (v ∷ vs) h = (slice_get-front ks js v star h.0, stars-grown ks js vs h.1)
 

@@ -7,4 +7,4 @@ mod pattern;
 
 pub use instance::instance_with;
 pub use names::{Declared, find};
-pub use pattern::{infer_pat, infer_pats};
+pub use pattern::{enter_list, enter_literal, enter_tuple, infer_pat, infer_pats, string};

@@ -31,8 +31,13 @@ fn bind(
     Ok(())
 }
 
-// A literal has this type.
-fn enter_literal(alloc: Global, ty: Term, wanted: u64, state: &mut Equations) -> Result<(), Failure>
+/// Makes the unknown `wanted` have the type of a literal. NoTyping comes exactly where it can't.
+pub fn enter_literal(
+    alloc: Global,
+    ty: Term,
+    wanted: u64,
+    state: &mut Equations,
+) -> Result<(), Failure>
     ensures ok { OnOk result (LiteralEntered (state_of state.old) (state_of state.new) wanted ty) }
     ensures none { IfErr result (λ e. e ≡ Failure.NoTyping → LiteralRefused (state_of state.old) wanted ty) }
 {
@@ -40,16 +45,16 @@ fn enter_literal(alloc: Global, ty: Term, wanted: u64, state: &mut Equations) ->
     state.equate(alloc, &own, &ty)
 }
 
-// `[Char]`
-fn string(alloc: Global) -> Result<Term, AllocError>
+/// `[Char]`
+pub fn string(alloc: Global) -> Result<Term, AllocError>
     ensures { IfOk result (λ t. t ≡ plain_list plain_character) }
 {
     let item = character(alloc)?;
     list_of(alloc, item)
 }
 
-// New unknowns for the parts of a tuple.
-fn enter_tuple(
+/// Makes the unknown `wanted` a tuple of so many new ones, which it returns. NoTyping comes exactly where it can't.
+pub fn enter_tuple(
     alloc: Global,
     many: usize,
     wanted: u64,
@@ -81,8 +86,9 @@ fn repeated(alloc: Global, id: u64, many: usize) -> Result<Vec<u64>, AllocError>
     Ok(ids)
 }
 
-// A new unknown for all items of a list, as often as there are items.
-fn enter_list(
+/// Makes the unknown `wanted` a list of a new one, which it returns as often as there are items. NoTyping comes exactly
+/// where it can't.
+pub fn enter_list(
     alloc: Global,
     many: usize,
     wanted: u64,

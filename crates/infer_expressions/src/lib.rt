@@ -1,0 +1,10 @@
+//! Inference of expressions without local declarations: the types that they have where each local has one type.
+#![tactic(auto)]
+
+mod expression;
+mod heads;
+mod refusal;
+mod scope;
+
+pub use expression::{infer_alt, infer_exp, infer_exps, infer_side};
+pub use refusal::Refusal;
