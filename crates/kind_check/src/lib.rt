@@ -11,5 +11,6 @@ mod written;
 
 pub use answer::Kinds;
 pub use group::{GroupError, KindEnv, TypeGroup, kinds_of};
-pub use scope::{GroupDecl, GroupDecls, Known, Knowns, Says, Sense};
-pub use written::{TypeError, kind_of_type};
+pub use scope::{GroupDecl, GroupDecls, Known, Knowns, Says, Sense, known_kind, position};
+pub use state::Failure;
+pub use written::{TypeError, is_full, kind_of_type, least_kind, variables_of};

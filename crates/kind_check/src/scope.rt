@@ -49,8 +49,8 @@ pub struct GroupDecl {
 /// Type declarations in order.
 pub type GroupDecls = Items<GroupDecl>;
 
-// The place of a parameter; their number where it is not there.
-fn position(params: &[Name], name: &Name) -> usize
+/// The place of a parameter; their number where it is not there.
+pub fn position(params: &[Name], name: &Name) -> usize
     ensures { result ≡ place params.now name.now }
 {
     for index in 0..params.len() {
@@ -112,8 +112,8 @@ fn kind_of_sense(sense: &Sense) -> Option<&Kind>
     }
 }
 
-// The first kind that is known of a name.
-fn known_kind<'a>(known: &'a [Known], name: &OrigName) -> Option<&'a Kind>
+/// The first kind that is known of a name.
+pub fn known_kind<'a>(known: &'a [Known], name: &OrigName) -> Option<&'a Kind>
     ensures some { IfSome result (λ k. IsKnown known.now name.now (kind_term k.now)) }
     ensures none { IfNone result (IsUnknown known.now name.now) }
 {

@@ -62,8 +62,8 @@ fn meet(alloc: Global, ty: &Written, met: &mut Names) -> Result<(), AllocError>
     }
 }
 
-// The variables of a type in order of first occurrence.
-fn variables_of(alloc: Global, ty: &Written) -> Result<Names, AllocError>
+/// The variables of a type in order of first occurrence.
+pub fn variables_of(alloc: Global, ty: &Written) -> Result<Names, AllocError>
     ensures { IfOk result (λ names. names ≡ variables ty.now) }
 {
     let mut met = Items::new(alloc);
@@ -71,8 +71,8 @@ fn variables_of(alloc: Global, ty: &Written) -> Result<Names, AllocError>
     Ok(met)
 }
 
-// The least kind of a type with these variables.
-fn least_kind(alloc: Global, ty: &Written, names: &[Name], known: &[Known]) -> Result<Kind, Failure>
+/// The least kind of a type with these variables; NoKind exactly where it has none.
+pub fn least_kind(alloc: Global, ty: &Written, names: &[Name], known: &[Known]) -> Result<Kind, Failure>
     ensures ok { IfOk result (λ k. HasKindAlone (known_names known.now) (written_term names.now ty.now) (count names.now) (kind_term k)) }
     ensures none { IfErr result (λ e. e ≡ Failure.NoKind → HasNoKind (known_names known.now) (written_term names.now ty.now) (count names.now)) }
 {
@@ -121,8 +121,8 @@ fn params_of(known: &[Known], name: &OrigName) -> Option<u64>
     None
 }
 
-// Whether each synonym in a type that is applied to so many others has all its arguments.
-fn is_full(known: &[Known], ty: &Written, given: u64) -> Result<bool, Failure>
+/// Whether each synonym in a type that is applied to so many others has all its arguments.
+pub fn is_full(known: &[Known], ty: &Written, given: u64) -> Result<bool, Failure>
     ensures ok { IfOk result (λ full. (names : List Text) → IsTrue full ↔ IsFullyApplied (known_synonyms known.now) (written_term names ty.now) given) }
     ensures err { IfErr result (λ e. e ≡ Failure.NoMemory) }
 {

@@ -1,6 +1,7 @@
 -- Lists of names that grow, and what names mean by them.
 use Rattle.std.proofs.Common.{◌≡◌, ℕ, suc, ◌+◌, ◌<◌, Bool, true, false, List, [], ◌∷◌, ◌++◌, length}
-use Rattle.std.proofs.Common.{get_or, take}
+use Rattle.std.proofs.Common.{get_or, take, true≢false}
+use Rattle.std.proofs.lemmas.Option.{none-some}
 use Rattle.std.proofs.Common.{inl, inr, refl, sym, ap, subst, ◌∙◌, arith}
 use Rattle.std.specs.Prelude.{◌↔◌, map, flat_map, replicate, Option, Some, None}
 use Rattle.std.proofs.lemmas.List.{append-nil, append_assoc, map-append}
@@ -16,14 +17,14 @@ use Rattle.hs_core.specs.Types.{KindTerm, star, arrow, arrows, kind_term}
 use Rattle.hs_core.specs.Sameness.{same_original}
 use Rattle.hs_core.proofs.SamenessLemmas.{original_itself, original_same}
 use Rattle.hs_core.specs.Globals.{Named, NameMeaning, kind_in, synonym_in, in_front, no_names, noted_in}
-use Rattle.hs_core.specs.Globals.{special_types, special_constructors}
+use Rattle.hs_core.specs.Globals.{special_types, special_constructors, Globals}
 use Rattle.kind_check.specs.declared.scope.Known.{Known}
 use Rattle.kind_check.specs.Scopes.{known_names, sense_kind}
 use Rattle.kind_check.specs.Answers.{known_synonyms, sense_synonym}
 use Rattle.kind_check.proofs.ArmLemmas.{kind_arrow}
 use Rattle.kind_check.proofs.LoopLemmas.{map_next, flat_next}
 use Rattle.kind_env.specs.Listings.{AreListed, Adds, type_of_special, value_of_special, nth_type, nth_value}
-use Rattle.kind_env.specs.Listings.{firsts}
+use Rattle.kind_env.specs.Listings.{firsts, known_kind}
 
 pub kind_from_star : (t : Kind) → kind_term (Arrow Star t) ≡ arrow star (kind_term t)
 kind_from_star t = kind_arrow Star t
@@ -147,6 +148,66 @@ listed_synonyms (x ∷ xs) (e ∷ es) n h = go (same_original x.name n) refl (li
         let s : same_original e.name n ≡ true = ap (λ z. same_original z n) h.0.named ∙ t in rw (s, t) h.0.synonym
     go false t rest =
         let s : same_original e.name n ≡ false = ap (λ z. same_original z n) h.0.named ∙ t in rw (s, t) rest
+
+-- names in front of others whose kinds and synonyms are these
+pub kind_in_front : (xs : List Named) (es outer : List Known) (G : Globals) (n : OrigName) → AreListed xs es
+    → known_kind outer n ≡ kind_in (G n) → known_kind (es ++ outer) n ≡ kind_in (in_front xs G n)
+kind_in_front [] es outer G n h o = ap (λ z. known_kind (z ++ outer) n) h ∙ o
+kind_in_front (x ∷ xs) [] outer G n h o = absurd h
+kind_in_front (x ∷ xs) (e ∷ es) outer G n h o = go (same_original x.name n) refl (kind_in_front xs es outer G n h.1 o)
+  where
+    go : (b : Bool) → same_original x.name n ≡ b → known_kind (es ++ outer) n ≡ kind_in (in_front xs G n)
+        → known_kind ((e ∷ es) ++ outer) n ≡ kind_in (in_front (x ∷ xs) G n)
+    go true t rest =
+        let s : same_original e.name n ≡ true = ap (λ z. same_original z n) h.0.named ∙ t in rw (s, t) h.0.kind
+    go false t rest =
+        let s : same_original e.name n ≡ false = ap (λ z. same_original z n) h.0.named ∙ t in rw (s, t) rest
+
+pub synonym_in_front : (xs : List Named) (es outer : List Known) (G : Globals) (n : OrigName) → AreListed xs es
+    → known_synonyms outer n ≡ synonym_in (G n) → known_synonyms (es ++ outer) n ≡ synonym_in (in_front xs G n)
+synonym_in_front [] es outer G n h o = ap (λ z. known_synonyms (z ++ outer) n) h ∙ o
+synonym_in_front (x ∷ xs) [] outer G n h o = absurd h
+synonym_in_front (x ∷ xs) (e ∷ es) outer G n h o =
+    go (same_original x.name n) refl (synonym_in_front xs es outer G n h.1 o)
+  where
+    go : (b : Bool) → same_original x.name n ≡ b → known_synonyms (es ++ outer) n ≡ synonym_in (in_front xs G n)
+        → known_synonyms ((e ∷ es) ++ outer) n ≡ synonym_in (in_front (x ∷ xs) G n)
+    go true t rest =
+        let s : same_original e.name n ≡ true = ap (λ z. same_original z n) h.0.named ∙ t in rw (s, t) h.0.synonym
+    go false t rest =
+        let s : same_original e.name n ≡ false = ap (λ z. same_original z n) h.0.named ∙ t in rw (s, t) rest
+
+-- the first kind that is known of a name is the kind that it is known to have
+pub known_has : (es : List Known) (n : OrigName) (k : KindTerm) → known_names es n k ↔ (known_kind es n ≡ Some k)
+known_has [] n k = (λ h. absurd h, λ e. absurd (none-some k e))
+known_has (e ∷ es) n k = go (same_original e.name n) refl (known_has es n k)
+  where
+    go : (b : Bool) → same_original e.name n ≡ b → known_names es n k ↔ (known_kind es n ≡ Some k)
+        → known_names (e ∷ es) n k ↔ (known_kind (e ∷ es) n ≡ Some k)
+    go true t rest =
+        let is : known_kind (e ∷ es) n ≡ sense_kind e.sense = rw t refl in
+        let same : e.name ≡ n = original_same e.name n t in (
+          λ p. elim p [ inl q ↦ is ∙ q.1 | inr q ↦ absurd (q.0 same) ],
+          λ q. inl (same, sym is ∙ q),
+        )
+    go false t rest =
+        let is : known_kind (e ∷ es) n ≡ known_kind es n = rw t refl in
+        let other : e.name ≡ n → ⊥ = λ s. true≢false
+        (sym (ap (same_original e.name) (sym s) ∙ original_itself e.name) ∙ t) in (
+          λ p. elim p [ inl q ↦ absurd (other q.0) | inr q ↦ is ∙ rest.0 q.1 ],
+          λ q. inr (other, rest.1 (sym is ∙ q)),
+        )
+
+-- what is known of a name is what entities say
+pub kind_known : (es : List Known) (n : OrigName) (o : Option KindTerm)
+    → ((k : KindTerm) → known_names es n k ↔ (o ≡ Some k)) → known_kind es n ≡ o
+kind_known es n o h = same (known_kind es n) o
+    (λ k. (λ p. (h k).0 ((known_has es n k).1 p), λ p. (known_has es n k).0 ((h k).1 p)))
+  where
+    same : (p q : Option KindTerm) → ((k : KindTerm) → (p ≡ Some k) ↔ (q ≡ Some k)) → p ≡ q
+    same None None f = refl
+    same None (Some k) f = (f k).1 refl
+    same (Some k) q f = sym ((f k).0 refl)
 
 -- what joined nothing is all
 pub listed_all : (xs : List Named) (old new : List Known) → Adds xs old new → old ≡ [] → AreListed xs new

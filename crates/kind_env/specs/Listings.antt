@@ -1,13 +1,16 @@
 -- Lists of names as the program keeps them, and as the definitions of names of modules have them.
-use Rattle.std.specs.Prelude.{◌≡◌, ℕ, zero, suc, List, [], ◌∷◌, ◌++◌, flat_map, Some}
+use Rattle.std.specs.Prelude.{◌≡◌, ℕ, zero, suc, List, [], ◌∷◌, ◌++◌, flat_map, Option, Some, None}
+use Rattle.std.specs.Prelude.{if◌then◌else◌}
 use Rattle.bp_base.specs.Texts.{Text}
 use Rattle.bp_base.specs.Specials.{base_prelude, special_name}
 use Rattle.bp_base.specs.declared.special.Special.{Special}
 use Rattle.bp_base.specs.declared.special.Special.TheVariants as s
 use Rattle.bp_base.specs.declared.ty.Space.TheVariants.{Types, Values}
+use Rattle.bp_base.specs.declared.ty.OrigName.{OrigName}
+use Rattle.hs_core.specs.Sameness.{same_original}
 use Rattle.bp_base.specs.declared.entity.Field.{Field}
 use Rattle.bp_base.specs.declared.entity.Con.{Con}
-use Rattle.hs_core.specs.Types.{star, function, integer}
+use Rattle.hs_core.specs.Types.{KindTerm, star, function, integer}
 use Rattle.hs_core.specs.Globals.{Named, type_name, value_name, constructor_name, kind_in, synonym_in, special_kind}
 use Rattle.hs_core.specs.Globals.{special_constructor, negate, noted_in}
 use Rattle.kind_check.specs.declared.scope.Known.{Known}
@@ -30,6 +33,11 @@ pub record Adds (xs : List Named) (old new : List Known) : Type 0 where
   pub more : List Known
   pub behind : new ≡ old ++ more
   pub listed : AreListed xs more
+
+-- the kind that the first meaning of a name has
+abbrev pub known_kind : List Known → OrigName → Option KindTerm
+known_kind [] n = None
+known_kind (e ∷ es) n = if same_original e.name n then sense_kind e.sense else known_kind es n
 
 -- ---- names that are known everywhere
 

@@ -2,10 +2,11 @@
 ghost use Rattle.std.specs.Prelude.{◌≡◌, ◌↔◌, ◌∷◌, [], map, flat_map, IfOk, OnOk};
 ghost use Rattle.bp_base.specs.declared.ty.OrigName.{OrigName};
 ghost use Rattle.hs_core.specs.Types.{KindTerm};
-ghost use Rattle.hs_core.specs.Globals.{constructor_of, declared_by, noted_in, noted_by, globals_of, kinds_of, synonyms_of};
+ghost use Rattle.hs_core.specs.Globals.{constructor_of, declared_by, noted_in, noted_by, globals_of, kinds_of, kind_in, synonyms_of};
 ghost use Rattle.kind_check.specs.Scopes.{known_names};
 ghost use Rattle.kind_check.specs.Answers.{known_synonyms};
-ghost use Rattle.kind_env.specs.Listings.{Adds, noted_in_con, noted_in_field};
+ghost use Rattle.hs_core.specs.WellTyped.{globals_in};
+ghost use Rattle.kind_env.specs.Listings.{Adds, noted_in_con, noted_in_field, known_kind};
 
 use crate::special::{add_known, put};
 use bp_base::{Con, Entities, Entity, Field, OrigName, Space, Ty};
@@ -170,5 +171,20 @@ pub fn env_of(alloc: Global, entities: &Entities) -> Result<KindEnv, AllocError>
     add_known(alloc, &mut names)?;
     add_all_declared(alloc, &mut names, entities.as_slice())?;
     add_all_noted(alloc, &mut names, entities.as_slice())?;
+    Ok(KindEnv { names })
+}
+
+/// What names mean to declarations that declare these entities, where others are seen outside: what is known everywhere, then what
+/// the declarations declare, then what names mean outside.
+pub fn env_within(alloc: Global, own: &Entities, outside: &Entities) -> Result<KindEnv, AllocError>
+    ensures kinds { IfOk result (λ e. (n : OrigName) → known_kind e.names n ≡ kind_in (globals_in (globals_of outside.now) (flat_map declared_by own.now) n)) }
+    ensures synonyms { IfOk result (λ e. (n : OrigName) → known_synonyms e.names n ≡ synonyms_of (globals_in (globals_of outside.now) (flat_map declared_by own.now)) n) }
+{
+    let mut names = Items::new(alloc);
+    add_known(alloc, &mut names)?;
+    add_all_declared(alloc, &mut names, own.as_slice())?;
+    let seen = env_of(alloc, outside)?;
+    let KindEnv { names: outer } = seen;
+    names.append(outer)?;
     Ok(KindEnv { names })
 }

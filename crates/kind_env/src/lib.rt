@@ -4,4 +4,4 @@
 mod entities;
 mod special;
 
-pub use entities::env_of;
+pub use entities::{env_of, env_within};

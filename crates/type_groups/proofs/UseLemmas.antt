@@ -266,7 +266,7 @@ among-append w [] ys h = inr h
 among-append w (x ∷ xs) ys (inl e) = inl (inl e)
 among-append w (x ∷ xs) ys (inr h) = elim (among-append w xs ys h) [ inl a ↦ inl (inr a) | inr b ↦ inr b ]
 
-uses_below : (ds : List TypeDecl) (ns : List OrigName) (w : ℕ) → Among w (flat_map (number_of 0 ds) ns) → w < length ds
+pub uses_below : (ds : List TypeDecl) (ns : List OrigName) (w : ℕ) → Among w (flat_map (number_of 0 ds) ns) → w < length ds
 uses_below ds [] w h = absurd h
 uses_below ds (n ∷ ns) w h = elim (among-append w (number_of 0 ds n) (flat_map (number_of 0 ds) ns) h) [
   | inl a ↦ (let l = number_below 0 ds n w a in omega (arith, l))
@@ -284,7 +284,7 @@ among-filter p w (n ∷ ns) h = go (p n) refl (among-filter p w ns)
     go false e rest =
         let q : filter p (n ∷ ns) ≡ filter p ns = rw e refl in inr (rest (subst (Among w) q h))
 
-among-once : (w : ℕ) (ns : List ℕ) → Among w (numbers_once ns) → Among w ns
+pub among-once : (w : ℕ) (ns : List ℕ) → Among w (numbers_once ns) → Among w ns
 among-once w [] h = h
 among-once w (n ∷ ns) (inl e) = inl e
 among-once w (n ∷ ns) (inr h) = inr (among-once w ns (among-filter (λ m. not (nat_eq m n)) w (numbers_once ns) h))

@@ -73,8 +73,8 @@ fn group_of(alloc: Global, decls: &[GroupDecl], members: &[u64]) -> Result<TypeG
     Ok(TypeGroup { decls: all })
 }
 
-// The declarations of each group.
-fn all_groups(
+/// The declarations of each group, by their numbers.
+pub fn all_groups(
     alloc: Global,
     decls: &[GroupDecl],
     members: &[IndexGroup],

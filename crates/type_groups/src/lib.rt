@@ -5,5 +5,6 @@ mod chosen;
 mod module;
 mod uses;
 
-pub use chosen::{TypeGroups, type_groups};
+pub use chosen::{TypeGroups, all_groups, type_groups};
 pub use module::{ModuleKinds, kinds_of_module};
+pub use uses::{all_uses, uses_of};

@@ -92,8 +92,8 @@ fn add_says(decls: &[GroupDecl], says: &Says, numbers: &mut Indices) -> Result<(
     }
 }
 
-// What a declaration mentions, each number once, in order of first occurrence.
-fn uses_of(alloc: Global, decls: &[GroupDecl], decl: &GroupDecl) -> Result<UseList, AllocError>
+/// What a declaration mentions, each number once, in order of first occurrence.
+pub fn uses_of(alloc: Global, decls: &[GroupDecl], decl: &GroupDecl) -> Result<UseList, AllocError>
     ensures { IfOk result (λ u. u ≡ use_list (decls_of decls.now) decl.now) }
 {
     let mut uses = Items::new(alloc);

@@ -1,0 +1,4 @@
+pub mod MemberLemmas
+pub mod SourceLemmas
+pub mod CycleLemmas
+pub mod ExactLemmas
