@@ -13,8 +13,7 @@ use Rattle.hs_expression_forms.specs.Fronts.{fronts}
 use Rattle.hs_expression_forms.specs.Links.{Links, links}
 use Rattle.hs_expression_forms.specs.declared.front.Front.TheVariants as fr
 use Rattle.hs_expression_forms.proofs.TreesLemmas.{embeds_took, embeds_failed}
-use Rattle.hs_expression_forms.proofs.FrontLemmas.{infix_embeds, infix_back, exp_embeds, exp_back, front_stop}
-use Rattle.hs_expression_forms.proofs.FrontLemmas.{front_failed}
+use Rattle.hs_expression_forms.proofs.FrontLemmas.{infix_embeds, infix_back, exp_embeds, exp_back, front_stop, front_failed}
 use Rattle.hs_expressions.specs.FrontAnswers.{ExpAnswers}
 
 -- a chain that is no front of a section
@@ -22,8 +21,7 @@ pub no_section : (limit : Option ℕ) (ts : Ts) (l : Links) (rest : Ts) (m : ℕ
     Took (links false) limit ts l rest m → Took (links false) limit ts (l.0, None) rest m
 no_section limit ts l rest m acc =
     let x = infix_back l acc.reads.good.0 in
-    subst (λ k. Took (links false) limit ts k rest m) (x.1 ∙ ap (λ y. (y, None)) (sym (ap (λ (k : Links). k.0) x.1)))
-    acc
+    subst (λ k. Took (links false) limit ts k rest m) (x.1 ∙ ap (λ y. (y, None)) (sym (ap (λ (k : Links). k.0) x.1))) acc
 
 pub infix_took : (limit : Option ℕ) (ts : Ts) (l : Links) (rest : Ts) (m : ℕ) →
     Took (links false) limit ts l rest m → Took infixes limit ts l.0 rest m
@@ -45,8 +43,7 @@ exp_answers limit ts (Err e) a =
 
 pub exp_failed : (limit : Option ℕ) (ts : Ts) (e : Fault) → Failed (links false) limit ts e → Failed exps limit ts e
 exp_failed limit ts e r =
-    embeds_failed exps (fronts false) (λ e. fr.Exp e) (exp_embeds false) limit exp_back ts e (front_failed false
-    limit ts e r)
+    embeds_failed exps (fronts false) (λ e. fr.Exp e) (exp_embeds false) limit exp_back ts e (front_failed false limit ts e r)
 
 pub section_took : (limit : Option ℕ) (ts : Ts) (l : Links) (op : QOpTree) (rest : Ts) (m : ℕ) → l.1 ≡ Some op →
     Took (links true) limit ts l rest m → Took (fronts true) limit ts (fr.Section l.0 op) rest m

@@ -1,6 +1,5 @@
 -- How the reader of a chain goes on and where it stops.
-use Rattle.std.proofs.Common.{◌≡◌, ℕ, zero, suc, ◌+◌, ◌-◌, ◌<◌, Bool, true, false, List, [], ◌∷◌, ◌++◌, length, refl}
-use Rattle.std.proofs.Common.{sym}
+use Rattle.std.proofs.Common.{◌≡◌, ℕ, zero, suc, ◌+◌, ◌-◌, ◌<◌, Bool, true, false, List, [], ◌∷◌, ◌++◌, length, refl, sym}
 use Rattle.std.proofs.Common.{ap, ◌∙◌, subst, arith, inl, inr, ◌⊎◌, true≢false}
 use Rattle.std.specs.Prelude.{max, Option, Some, None, not, ◌&&◌}
 use Rattle.std.specs.List.{slice_get}
@@ -25,13 +24,8 @@ use Rattle.hs_expression_forms.proofs.LinkAnswerLemmas.{Completes, completes_lon
 use Rattle.hs_expression_forms.proofs.LinkAnswerLemmas.{next_fails}
 use Rattle.hs_expression_forms.proofs.LinkFirstLemmas.{first_state}
 use Rattle.hs_expression_forms.proofs.OpenLemmas.{signed_open, last_open, chain_open, first_open, more_open, links_step}
+use Rattle.hs_expressions.specs.Chains.{Reading}
 use Rattle.hs_expressions.specs.LinkAnswers.{LinkFails, over, operator, behind, LinkTook}
-
--- what is known of a chain on its way: whether its last operand is open
-pub record Reading (limit : Option ℕ) (ts : Ts) (s : SignedOperand) (xs : List OpOperand) (here : Ts) (deep ops : ℕ)
-    (b : Bool) : Type 0 where
-  pub state : LinkState limit ts (make_infix s xs) here deep ops
-  pub opened : b ≡ (facts_of_infix (make_infix s xs)).is_open
 
 pub reading_first : (limit : Option ℕ) (ts : Ts) (s : SignedOperand) (rest : Ts) (m n : ℕ) (b : Bool) →
     SignedTook limit 0 0 ts s rest m → n ≡ sign (negated_of s) → b ≡ signed_open s →
@@ -67,8 +61,7 @@ completes : (limit : Option ℕ) (ts : Ts) (x : InfixTree) (here : Ts) (deep ops
     (st : LinkState limit ts x here deep ops) → (facts_of_infix x).is_open ≡ false → (lone : Bool) →
     (lone ≡ false → Within limit (deep + (ops + 1))) → Completes limit ts x here deep ops st lone
 completes limit ts x here deep ops st shut true room = completes_lone limit ts x here deep ops st shut
-completes limit ts x here deep ops st shut false room = completes_room limit ts x here deep ops st shut (room refl)
-    false
+completes limit ts x here deep ops st shut false room = completes_room limit ts x here deep ops st shut (room refl) false
 
 pub link_fails : (limit : Option ℕ) (lone : Bool) (ts : Ts) (s : SignedOperand) (xs : List OpOperand) (here : Ts)
     (deep ops : ℕ) (b : Bool) → Reading limit ts s xs here deep ops b → b ≡ false → begins starts_qop here ≡ true →
@@ -100,8 +93,7 @@ last_at s (y ∷ z ∷ xs) x e =
     let n : length (y ∷ z ∷ xs) - 1 ≡ suc (length (z ∷ xs) - 1) = omega arith in
     last_at (out-OpOperand y).operand (z ∷ xs) x (ap (slice_get (y ∷ z ∷ xs)) (sym n) ∙ e)
 
-last_none : (s : SignedOperand) (xs : List OpOperand) → slice_get xs (length xs - 1) ≡ None → last_open s xs ≡
-    signed_open s
+last_none : (s : SignedOperand) (xs : List OpOperand) → slice_get xs (length xs - 1) ≡ None → last_open s xs ≡ signed_open s
 last_none s [] e = refl
 last_none s (y ∷ []) e = absurd (none e)
   where

@@ -7,6 +7,7 @@ use Rattle.hs_forms.specs.Answers.{Fails}
 use Rattle.hs_forms.specs.declared.fault.Fault.{Fault}
 use Rattle.hs_forms.specs.declared.fault.Fault.TheVariants.{At}
 use Rattle.hs_tokens.specs.declared.terminal.Terminal.{Terminal}
+use Rattle.hs_readers.specs.declared.read.Read.{Read}
 use Rattle.hs_modules.specs.Words.{qop_tokens}
 use Rattle.hs_modules.specs.declared.names.QOpTree.{QOpTree}
 use Rattle.hs_modules.specs.declared.expressions.SignedOperand.{SignedOperand}
@@ -31,8 +32,11 @@ abbrev pub LinkTook : Option ℕ → ℕ → ℕ → List Terminal → QOpTree �
 LinkTook limit deep ops here op s rest m =
     (next : List Terminal) × (here ≡ qop_tokens op ++ next) × SignedTook limit deep (ops + 1) next s rest m
 
+-- the operator of a section, behind which no operand stands
+abbrev pub IsAlone : Bool → List Terminal → Read QOpTree → Type 0
+IsAlone lone here r = (lone ≡ true) × (here ≡ qop_tokens r.tree ++ r.rest.now) × (begins starts_exp r.rest.now ≡ false)
+
 abbrev pub LinkAnswers : Option ℕ → Bool → ℕ → ℕ → List Terminal → Result Link Fault → Type 0
 LinkAnswers limit lone deep ops here (Ok (k.Operand op r)) = LinkTook limit deep ops here op r.tree r.rest.now r.depth
-LinkAnswers limit lone deep ops here (Ok (k.Alone r)) =
-    (lone ≡ true) × (here ≡ qop_tokens r.tree ++ r.rest.now) × (begins starts_exp r.rest.now ≡ false)
+LinkAnswers limit lone deep ops here (Ok (k.Alone r)) = IsAlone lone here r
 LinkAnswers limit lone deep ops here (Err e) = LinkFails limit lone deep ops here e

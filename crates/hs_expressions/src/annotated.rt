@@ -1,17 +1,22 @@
-//! Expressions and the types behind them (Haskell 2010 Report, sections 3 and 3.16).
-ghost use Rattle.std.specs.Prelude.{◌≡◌, ◌∷◌, ◌+◌, ◌<◌, ◌^◌, MatchOption, Bool, false, None};
+//! Expressions, chains and what stands first between round brackets, of operands that a reader is given for (Haskell 2010
+//! Report, sections 3, 3.5 and 3.16).
+ghost use Rattle.std.specs.Prelude.{◌≡◌, ◌∷◌, ◌+◌, ◌<◌, ◌≤◌, ◌^◌, length, MatchOption, Bool, true, false, None};
 ghost use Rattle.hs_forms.specs.Reading.{begins};
 ghost use Rattle.hs_tokens.specs.declared.terminal.Terminal.TheVariants.{DoubleColon};
+ghost use Rattle.hs_readers.specs.Answers.{Answers};
 ghost use Rattle.hs_modules.specs.Formed.{facts_of_infix};
-ghost use Rattle.hs_expression_forms.specs.Trees.{Took};
-ghost use Rattle.hs_expression_forms.specs.Expressions.{is_double_colon};
+ghost use Rattle.hs_expression_forms.specs.Trees.{Took, sort_of};
+ghost use Rattle.hs_expression_forms.specs.Expressions.{exps, infixes, is_double_colon, operands};
+ghost use Rattle.hs_expression_forms.specs.Fronts.{fronts};
 ghost use Rattle.hs_expression_forms.specs.Links.{links};
 ghost use Rattle.hs_expressions.specs.FrontAnswers.{ExpAnswers};
 
+use crate::chains::read_links;
 use crate::leaf::after_double_colon;
 use crate::links::ends_open;
+use hs_expression_forms::Front;
 use hs_forms::Fault;
-use hs_modules::{ExpTree, InfixTree};
+use hs_modules::{ExpTree, InfixTree, OperandTree};
 use hs_readers::{Read, allows, lower, read_type};
 use hs_tokens::Terminal;
 use std::alloc::Global;
@@ -38,7 +43,7 @@ fn after_colons<'a>(chain: &InfixTree, tokens: &'a [Terminal]) -> Option<&'a [Te
 }
 
 /// A chain with the type behind it, if one stands there.
-pub fn read_annotation(
+fn read_annotation(
     alloc: Global,
     chain: Read<'_, InfixTree>,
     limit: Option<usize>,
@@ -61,5 +66,79 @@ pub fn read_annotation(
         tree: ExpTree::Annotated(chain.tree, ty.tree),
         rest: ty.rest,
         depth: chain.depth.max(ty.depth) + 1,
+    })
+}
+
+/// `infix`
+pub fn read_infix<'a, F: Fn(&[Terminal], Option<usize>) -> Result<Read<'_, OperandTree>, Fault>>(
+    alloc: Global,
+    tokens: &'a [Terminal],
+    limit: Option<usize>,
+    operand: &F,
+) -> Result<Read<'a, InfixTree>, Fault>
+    requires may { (here : _) (l : _) → length here.now ≤ length tokens.now → F.pre operand.now here l }
+    requires says { (here : _) (l : _) (r : _) → F.post operand.now here l r → Answers (sort_of operands l) here.now r }
+    ensures { Answers (sort_of infixes limit) tokens.now result }
+{
+    let read = read_links(alloc, tokens, limit, false, operand)?;
+    let (tree, _lone) = read.tree;
+    Ok(Read {
+        tree,
+        rest: read.rest,
+        depth: read.depth,
+    })
+}
+
+/// `infix ["::" type]`
+pub fn read_exp<'a, F: Fn(&[Terminal], Option<usize>) -> Result<Read<'_, OperandTree>, Fault>>(
+    alloc: Global,
+    tokens: &'a [Terminal],
+    limit: Option<usize>,
+    operand: &F,
+) -> Result<Read<'a, ExpTree>, Fault>
+    requires may { (here : _) (l : _) → length here.now ≤ length tokens.now → F.pre operand.now here l }
+    requires says { (here : _) (l : _) (r : _) → F.post operand.now here l r → Answers (sort_of operands l) here.now r }
+    ensures { Answers (sort_of exps limit) tokens.now result }
+{
+    let read = read_links(alloc, tokens, limit, false, operand)?;
+    let (tree, _lone) = read.tree;
+    let chain = Read {
+        tree,
+        rest: read.rest,
+        depth: read.depth,
+    };
+    read_annotation(alloc, chain, limit)
+}
+
+/// An expression, or a chain and the operator of a left section, behind a `(`.
+pub fn read_front<'a, F: Fn(&[Terminal], Option<usize>) -> Result<Read<'_, OperandTree>, Fault>>(
+    alloc: Global,
+    tokens: &'a [Terminal],
+    limit: Option<usize>,
+    operand: &F,
+) -> Result<Read<'a, Front>, Fault>
+    requires may { (here : _) (l : _) → length here.now ≤ length tokens.now → F.pre operand.now here l }
+    requires says { (here : _) (l : _) (r : _) → F.post operand.now here l r → Answers (sort_of operands l) here.now r }
+    ensures { Answers (sort_of (fronts true) limit) tokens.now result }
+{
+    let read = read_links(alloc, tokens, limit, true, operand)?;
+    let (tree, lone) = read.tree;
+    if let Some(op) = lone {
+        return Ok(Read {
+            tree: Front::Section(tree, op),
+            rest: read.rest,
+            depth: read.depth,
+        });
+    }
+    let chain = Read {
+        tree,
+        rest: read.rest,
+        depth: read.depth,
+    };
+    let exp = read_annotation(alloc, chain, limit)?;
+    Ok(Read {
+        tree: Front::Exp(exp.tree),
+        rest: exp.rest,
+        depth: exp.depth,
     })
 }

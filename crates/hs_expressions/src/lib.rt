@@ -3,13 +3,16 @@
 
 mod annotated;
 mod chain_leaf;
+mod chains;
 mod leaf;
 mod links;
 mod qop;
 mod signed;
+mod steps;
 
-pub use annotated::{chain_is_open, read_annotation};
+pub use annotated::{chain_is_open, read_exp, read_front, read_infix};
 pub use chain_leaf::{after_sign, count_sign, ends_section, goes_on, is_open, may_follow};
+pub use chains::{ChainState, read_links};
 pub use leaf::{
     after_backslash, after_case, after_double_colon, after_else, after_if, after_in, after_let,
     after_of, after_then, begins_aexp, begins_exp, begins_minus, begins_qop,
@@ -17,3 +20,4 @@ pub use leaf::{
 pub use links::{Link, ends_open, read_link, signs};
 pub use qop::read_qop;
 pub use signed::read_signed;
+pub use steps::{Step, Steps, run};

@@ -42,7 +42,7 @@ pub fn ends_open(operand: &SignedOperand) -> bool
 }
 
 /// An operator and the operand behind it, or the operator of a section if such may stand here.
-pub fn read_link<'a, F: Fn(&'a [Terminal], Option<usize>) -> Result<Read<'a, OperandTree>, Fault>>(
+pub fn read_link<'a, F: Fn(&[Terminal], Option<usize>) -> Result<Read<'_, OperandTree>, Fault>>(
     alloc: Global,
     tokens: &'a [Terminal],
     limit: Option<usize>,

@@ -13,10 +13,7 @@ use hs_readers::{Read, allows, lower};
 use hs_tokens::Terminal;
 
 /// `["-"] operand`, behind so many operators and signs, where the deepest operand before it is so deep.
-pub fn read_signed<
-    'a,
-    F: Fn(&'a [Terminal], Option<usize>) -> Result<Read<'a, OperandTree>, Fault>,
->(
+pub fn read_signed<'a, F: Fn(&[Terminal], Option<usize>) -> Result<Read<'_, OperandTree>, Fault>>(
     tokens: &'a [Terminal],
     limit: Option<usize>,
     deep: usize,
