@@ -17,10 +17,9 @@ use Rattle.hs_scopes.specs.Words.{is_empty}
 use Rattle.hs_scopes.specs.Meanings.{name_of}
 use Rattle.import_resolve.specs.declared.thing.Thing.{Thing}
 use Rattle.import_resolve.specs.Exports.{Clashes, HasType, is_con, thing_meaning}
-use Rattle.export_resolve.specs.Named.{if_named}
 use Rattle.export_resolve.specs.Found.{is_one_of}
 use Rattle.export_resolve.specs.Clashes.{all_meant, clash_of, clashes, differs_from, first_at, firsts_of, has_type}
-use Rattle.export_resolve.specs.Clashes.{heads_named, if_first, if_head, if_typed, least_clash, meant_of, sooner}
+use Rattle.export_resolve.specs.Clashes.{heads_named, if_first, meant_of, sooner}
 use Rattle.export_resolve.specs.declared.clash.Meant.{Meant}
 use Rattle.export_resolve.proofs.LeastLemmas.{LeastSays, least_says}
 

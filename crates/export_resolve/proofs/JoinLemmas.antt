@@ -1,11 +1,11 @@
 -- Answers that meet a check, one after another.
-use Rattle.std.proofs.Common.{◌≡◌, refl, sym, ap, subst, ◌∙◌, inl, inr, List, [], ◌∷◌, ◌++◌, append_assoc, append-nil}
+use Rattle.std.proofs.Common.{◌≡◌, refl, sym, ap, subst, inl, inr, List, [], ◌∷◌, ◌++◌, append_assoc, append-nil}
 use Rattle.std.specs.Prelude.{Result, Ok, Err}
 use Rattle.std.specs.List.{flat_map}
 use Rattle.bp_checks.specs.Check.{Check, ◌>>=◌, PassesAll, FailsIn}
 use Rattle.import_resolve.specs.declared.error.ScopeError.{ScopeError}
 use Rattle.import_resolve.specs.declared.error.ScopeError.TheVariants as err
-use Rattle.import_resolve.specs.Scopes.{ScopeFault, OnFault, Answers, next}
+use Rattle.import_resolve.specs.Scopes.{ScopeFault, Answers, next}
 use Rattle.export_resolve.specs.Found.{all_found, together}
 use Rattle.export_resolve.specs.Whole.{Judges}
 

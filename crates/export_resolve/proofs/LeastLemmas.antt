@@ -1,6 +1,6 @@
 -- The least name that clashes.
 use Rattle.std.proofs.Common.{◌≡◌, refl, sym, ap, subst, ◌∙◌, inl, inr, Bool, true, false, List, [], ◌∷◌, None, Some, true≢false}
-use Rattle.std.specs.Prelude.{◌⊎◌, Option, if◌then◌else◌, MatchOption}
+use Rattle.std.specs.Prelude.{◌⊎◌, Option, if◌then◌else◌}
 use Rattle.std.specs.Ordering.{nat_cmp, is_gt, is_lt, ordering_reverse}
 use Rattle.std.specs.Cmp.Lexicographic.{slice_cmp}
 use Rattle.std.specs.declared.cmp.Ordering.{Ordering}

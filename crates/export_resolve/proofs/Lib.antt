@@ -6,4 +6,3 @@ pub mod OfferedLemmas
 pub mod LeastLemmas
 pub mod ClashLemmas
 pub mod WholeLemmas
-pub mod MeaningLemmas

@@ -27,13 +27,13 @@ use Rattle.hs_scopes.specs.Meanings.{meaning_of, name_of}
 use Rattle.import_resolve.specs.declared.thing.Thing.{Thing}
 use Rattle.import_resolve.specs.ImportLists.{sub_name}
 use Rattle.import_resolve.specs.Scopes.{ScopeFault, next}
-use Rattle.import_resolve.specs.Exports.{AreThose, HasItem, IsBoth, IsConItem, SamePlain, asked, both_names, con_names}
+use Rattle.import_resolve.specs.Exports.{HasItem, IsBoth, IsConItem, SamePlain, asked, both_names, con_names}
 use Rattle.import_resolve.specs.Exports.{con_there, con_thing, cons_there, export_gives, is_qualifier, main_name, offered}
 use Rattle.import_resolve.specs.Exports.{qvar_name, subs_there, thing_named, thing_of, things}
-use Rattle.export_resolve.specs.Named.{if_named, items_named, owners_named}
+use Rattle.export_resolve.specs.Named.{items_named, owners_named}
 use Rattle.export_resolve.specs.Seen.{seen}
-use Rattle.export_resolve.specs.Found.{all_found, all_owned, both_found, con_found, con_or, cons_of, export_found, is_both}
-use Rattle.export_resolve.specs.Found.{is_owned, module_or, offered_found, one_found, same_meaning, same_plain}
+use Rattle.export_resolve.specs.Found.{all_owned, both_found, con_found, con_or, cons_of, export_found, is_both}
+use Rattle.export_resolve.specs.Found.{is_owned, module_or, offered_found, same_meaning, same_plain}
 use Rattle.export_resolve.specs.Found.{subs_found, thing_found, type_with}
 use Rattle.export_resolve.proofs.JoinLemmas.{AfterDone, Flat, Meets, Single, flats, met_then, singles}
 use Rattle.export_resolve.proofs.OwnedLemmas.{HasOwn, chosen_mapped, owned_there, there_owned, those_chosen}

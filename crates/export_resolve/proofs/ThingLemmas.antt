@@ -1,5 +1,5 @@
 -- What a written name means in an export list.
-use Rattle.std.proofs.Common.{◌≡◌, refl, sym, ap, subst, ◌∙◌, inl, inr, Bool, true, false, List, [], ◌∷◌, ◌++◌, map}
+use Rattle.std.proofs.Common.{◌≡◌, refl, sym, ap, subst, ◌∙◌, inl, inr, Bool, true, false, List, [], ◌∷◌, ◌++◌}
 use Rattle.std.proofs.Common.{None, Some, true≢false}
 use Rattle.std.specs.Prelude.{◌&&◌, Result, Ok, Err, if◌then◌else◌}
 use Rattle.std.specs.List.{filter}
@@ -14,7 +14,7 @@ use Rattle.hs_scopes.specs.Words.{Word, word_of}
 use Rattle.hs_scopes.specs.declared.scope.ScopeItem.{ScopeItem}
 use Rattle.hs_scopes.specs.declared.scope.MeaningFault.{MeaningFault}
 use Rattle.hs_scopes.specs.declared.scope.MeaningFault.TheVariants.{AmbiguousName}
-use Rattle.hs_scopes.specs.Meanings.{AllMean, IsMeant, IsRefusedName, OneMeansAnother, candidates, is_named, meaning_of}
+use Rattle.hs_scopes.specs.Meanings.{AllMean, IsMeant, IsRefusedName, OneMeansAnother, candidates, meaning_of}
 use Rattle.import_resolve.specs.Exports.{IsFirst, thing_named}
 use Rattle.export_resolve.specs.Named.{items_named}
 use Rattle.export_resolve.specs.Seen.{seen}

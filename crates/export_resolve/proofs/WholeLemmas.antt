@@ -1,7 +1,7 @@
 -- What is found of a module is what it exports.
 use Rattle.std.proofs.Common.{◌≡◌, refl, sym, ap, subst, ◌∙◌, inl, inr, Bool, true, false, List, [], ◌∷◌, ◌++◌, map, None, Some, append_assoc, append-nil, true≢false}
 use Rattle.std.specs.Prelude.{Option, Result, Ok, Err, if◌then◌else◌, not}
-use Rattle.std.specs.List.{filter, flat_map}
+use Rattle.std.specs.List.{flat_map}
 use Rattle.bp_base.specs.Texts.{Text}
 use Rattle.bp_base.specs.declared.ty.OrigName.{OrigName}
 use Rattle.bp_base.specs.declared.entity.Con.{Con}
@@ -20,7 +20,7 @@ use Rattle.import_resolve.specs.Exports.{no_clash, offered, sorted}
 use Rattle.export_resolve.specs.Seen.{seen}
 use Rattle.export_resolve.specs.Found.{cons_of, is_owned, offered_found}
 use Rattle.export_resolve.specs.Clashes.{clash_of}
-use Rattle.export_resolve.specs.Whole.{Judges, all_exports, con_owners, export_as, exports_found, exports_in, if_head_export}
+use Rattle.export_resolve.specs.Whole.{Judges, all_exports, con_owners, export_as, exports_found, exports_in}
 use Rattle.export_resolve.specs.Whole.{offered_among, unclashed}
 use Rattle.export_resolve.proofs.JoinLemmas.{Meets, judged, met_by}
 use Rattle.export_resolve.proofs.OwnedLemmas.{HasOwn, chosen_mapped, map_itself, owned_there, there_owned, those_chosen}

@@ -1,4 +1,4 @@
-use Rattle.std.proofs.Common.{◌≡◌, [], refl, sym, ap, ◌∙◌}
+use Rattle.std.proofs.Common.{[], sym, ap, ◌∙◌}
 use Rattle.import_resolve.specs.Exports.{inserted}
 use Rattle.export_resolve.specs.Sorting.{put_in}
 use Rattle.export_resolve.proofs.SortLemmas.{put_all, put_last}

@@ -1,4 +1,3 @@
-use Rattle.std.proofs.Common.{◌≡◌}
 use Rattle.export_resolve.proofs.SortLemmas.{pairs_order, put_by}
 use Rattle.export_resolve.proofs.sorted.put_in.Goals as goal
 

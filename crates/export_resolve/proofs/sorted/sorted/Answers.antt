@@ -1,4 +1,4 @@
-use Rattle.std.proofs.Common.{◌≡◌, ap, ◌∙◌}
+use Rattle.std.proofs.Common.{ap, ◌∙◌}
 use Rattle.std.specs.Map.{values_of}
 use Rattle.import_resolve.specs.Exports.{sorted}
 use Rattle.export_resolve.proofs.SortLemmas.{values_tagged}
