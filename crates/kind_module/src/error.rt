@@ -2,8 +2,8 @@
 use bp_base::Name;
 use std::alloc::AllocError;
 
-/// Why the types of a module are refused, with the declared name: of a group of type declarations the first in the order of the
-/// source, and of a pattern binding its first variable, or no bytes where it has none.
+/// Why the types of a module are refused, with the declared name: of a group of type declarations the first in the
+/// order of the source, and of a pattern binding its first variable, or no bytes where it has none.
 #[derive(Debug, Drop)]
 pub enum KindsError {
     /// A group of type declarations has no kinds, or a written type hasn't kind `*`.

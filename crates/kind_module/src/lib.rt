@@ -1,5 +1,5 @@
-//! The types of a module: least kinds, lawful synonyms, and the entities that its declarations declare, with their types expanded
-//! (Haskell 2010 Report, sections 4.2.2 and 4.6).
+//! The types of a module: least kinds, lawful synonyms, and the entities that its declarations declare, with their
+//! types expanded (Haskell 2010 Report, sections 4.2.2 and 4.6).
 #![tactic(auto)]
 
 mod error;

@@ -63,12 +63,13 @@ fn types_give(
     entities_give(alloc, own, env)
 }
 
-/// The entities that the declarations of the module `here` declare, in their order, each with its kind and its types expanded, where
-/// these entities are seen outside; the kinds of names are noted in their types, and the variables of a value's type are numbered by
-/// first occurrence. Refused is the first that stands of these: Kind, in dependency groups of type declarations and then in written
-/// types in order; SynonymUse, at the first synonym that leads to itself and then at the types in which one isn't fully applied, in
-/// order; TypeDepth, of an expanded type of a declaration that is deeper than 1,000 (Haskell 2010 Report, sections 4.1.2, 4.2.2 and
-/// 4.6). A type that has no expansion by what is seen outside is SynonymUse of its declaration.
+/// The entities that the declarations of the module `here` declare, in their order, each with its kind and its types
+/// expanded, where these entities are seen outside; the kinds of names are noted in their types, and the variables of
+/// a value's type are numbered by first occurrence. Refused is the first that stands of these: Kind, in dependency
+/// groups of type declarations and then in written types in order; SynonymUse, at the first synonym that leads to
+/// itself and then at the types in which one isn't fully applied, in order; TypeDepth, of an expanded type of a
+/// declaration that is deeper than 1,000 (Haskell 2010 Report, sections 4.1.2, 4.2.2 and 4.6). A type that has no
+/// expansion by what is seen outside is SynonymUse of its declaration.
 pub fn kinds_give(
     alloc: Global,
     outside: &Entities,
