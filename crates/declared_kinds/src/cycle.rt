@@ -76,8 +76,9 @@ fn first_of(uses: &[UseList], groups: &[IndexGroup], numbers: &[u64]) -> Option<
     None
 }
 
-/// The number of the first synonym whose body leads to it through synonyms alone, if there is one: of the first dependency
-/// group of the declarations that has one, the first in the order of the source (Haskell 2010 Report, section 4.2.2).
+/// The number of the first synonym whose body leads to it through synonyms alone, if there is one: of the first
+/// dependency group of the declarations that has one, the first in the order of the source (Haskell 2010 Report,
+/// section 4.2.2).
 pub fn first_on_cycle(alloc: Global, decls: &[GroupDecl]) -> Result<Option<u64>, AllocError>
     ensures { IfOk result (λ o. IsFirstOnCycle (decls_of decls.now) o) }
 {

@@ -80,8 +80,8 @@ fn in_source_order(
     Ok(all)
 }
 
-/// The kinds of type declarations, in their order: dependency group after dependency group, each with its least kinds where
-/// those before it have theirs. Kind names the first declaration of the first group that has no kinds.
+/// The kinds of type declarations, in their order: dependency group after dependency group, each with its least kinds
+/// where those before it have theirs. Kind names the first declaration of the first group that has no kinds.
 pub fn source_kinds(alloc: Global, decls: &GroupDecls, env: KindEnv) -> Result<Kinds, GroupError>
     ensures ok { IfOk result (λ ks. AreSourceKinds (known_names env.names) decls.now ks) }
     ensures err { IfErr result (λ e. IsSourceError (known_names env.names) decls.now e) }

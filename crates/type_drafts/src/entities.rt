@@ -223,8 +223,8 @@ fn taken(decl: &Decl) -> usize
     }
 }
 
-/// What the declarations of a module declare, in their order, where its types have these kinds, in their order: types are as they
-/// are written, and no kinds are noted at their names yet.
+/// What the declarations of a module declare, in their order, where its types have these kinds, in their order: types
+/// are as they are written, and no kinds are noted at their names yet.
 pub fn drafts(
     alloc: Global,
     here: &Ident,

@@ -11,8 +11,8 @@ use sqlite_items::Items;
 use std::alloc::{AllocError, Global};
 use written_types::{Writtens, add_types_of};
 
-/// A written type, with the name whose declaration writes it; the name of a pattern binding is its first variable, and has no bytes
-/// where there is none.
+/// A written type, with the name whose declaration writes it; the name of a pattern binding is its first variable,
+/// and has no bytes where there is none.
 #[derive(Debug, Drop)]
 pub struct TypeUse {
     pub name: Name,
@@ -162,8 +162,8 @@ fn add_all_uses(alloc: Global, decl: &Decl, all: &mut TypeUses) -> Result<(), Al
     add_uses(alloc, &name, types.as_slice(), all)
 }
 
-/// The types that declarations write for values, in the order of the source: those of type signatures and annotations, at the top
-/// and inside.
+/// The types that declarations write for values, in the order of the source: those of type signatures and
+/// annotations, at the top and inside.
 pub fn value_uses(alloc: Global, decls: &[Decl]) -> Result<TypeUses, AllocError>
     ensures { IfOk result (λ us. us ≡ value_uses decls.now) }
 {

@@ -1,0 +1,5 @@
+pub mod Faults
+pub mod Tests
+pub mod Expanded
+pub mod Kinds
+pub mod Laws
