@@ -1,4 +1,5 @@
-//! Blocks of signatures: imports, then declarations (Yang 2017, "Backpack: Towards Practical Mix-in Linking for Haskell").
+//! Blocks of signatures: imports, then declarations (Yang 2017, "Backpack: Towards Practical Mix-in Linking for
+//! Haskell").
 ghost use Rattle.std.specs.Prelude.{◌≡◌, ◌+◌, ◌<◌, ◌^◌, ◌↔◌, ℕ, Option, IsTrue, true, length, map, max};
 ghost use Rattle.hs_forms.specs.Reading.{begins};
 ghost use Rattle.hs_forms.specs.Limits.{deepest};

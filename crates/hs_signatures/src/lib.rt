@@ -1,5 +1,5 @@
-//! Readers of signatures (Yang 2017, "Backpack: Towards Practical Mix-in Linking for Haskell"): their declarations, their
-//! block, and the whole.
+//! Readers of signatures (Yang 2017, "Backpack: Towards Practical Mix-in Linking for Haskell"): their declarations,
+//! their block, and the whole.
 #![tactic(auto)]
 
 mod blocks;

@@ -11,8 +11,8 @@ use hs_readers::Read;
 use hs_tokens::Terminal;
 use std::alloc::Global;
 
-/// `"signature" modid "where" block(impdecl first, then sigdecl)`: the signature at the front of the terminals, or where they
-/// begin none. The limit bounds its depth.
+/// `"signature" modid "where" block(impdecl first, then sigdecl)`: the signature at the front of the terminals, or where
+/// they begin none. The limit bounds its depth.
 pub fn read_signature<'a>(
     alloc: Global,
     tokens: &'a [Terminal],
