@@ -197,7 +197,8 @@ fn read_other<'a>(
     }
 }
 
-/// A constructor: a name and its fields, or an operator between two types. No token tells them apart before the operator.
+/// A constructor: a name and its fields, or an operator between two types. No token tells them apart before the
+/// operator.
 pub fn read_constr<'a>(
     alloc: Global,
     tokens: &'a [Terminal],

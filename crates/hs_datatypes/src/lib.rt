@@ -1,4 +1,5 @@
-//! Readers of declarations of types (Haskell 2010 Report, section 4.2): data types with constructors, `newtype` and synonyms.
+//! Readers of declarations of types (Haskell 2010 Report, section 4.2): data types with constructors, `newtype` and
+//! synonyms.
 #![tactic(auto)]
 
 mod constructors;

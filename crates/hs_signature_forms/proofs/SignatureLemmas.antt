@@ -19,12 +19,14 @@ use Rattle.hs_modules.specs.declared.module.Module.{Module}
 use Rattle.hs_modules.specs.declared.module.Module.TheVariants as m
 use Rattle.hs_headers.specs.Heads.{signature_head_form}
 use Rattle.hs_headers.proofs.TurnLemmas.{stuck}
-use Rattle.hs_expression_forms.specs.Trees.{Trees, Took, Failed, Follows, row, within}
+use Rattle.hs_forms.proofs.LimitLemmas.{within_zero}
+use Rattle.hs_signature_forms.specs.declared.parts.SigPart.TheVariants as p
+use Rattle.hs_expression_forms.specs.Trees.{Trees, Took, Failed, Follows, row, within, behind_token}
 use Rattle.hs_expression_forms.proofs.TreesLemmas.{row_took, row_first, row_second, Stays}
 use Rattle.hs_block_forms.specs.Blocks.{is_left_brace}
 use Rattle.hs_declaration_forms.proofs.FlatLemmas.{Flat, flat_took, flat_failed}
 use Rattle.hs_declaration_forms.proofs.MergeLemmas.{Joins, joined_took, joined_failed}
-use Rattle.hs_signature_forms.specs.Signatures.{sig_blocks, PartList, block_of}
+use Rattle.hs_signature_forms.specs.Signatures.{sig_blocks, PartList, block_of, parts}
 use Rattle.hs_signature_forms.proofs.PartChainLemmas.{shut_lists}
 use Rattle.hs_signature_forms.proofs.FlattenLemmas.{block_joins}
 
@@ -130,3 +132,10 @@ module _ (limit : Option ℕ) (ts : Ts) where
         (joined_took sigs (row heads sig_blocks) make any sig_joins limit ts (name, b) rest (max d n)
         (row_took heads sig_blocks is_left_brace block_follows limit ts name here d b rest n
         (flat_took signature_head_form heads head_flat limit ts name here d acc) q))
+
+-- no block stands here
+pub no_block : (limit : Option ℕ) (ts : Ts) → begins is_left_brace ts ≡ false →
+    Rejects (within (behind_token t.LeftBrace parts) limit) ts (length ts)
+no_block limit ts off =
+    stuck (within (behind_token t.LeftBrace parts) limit) is_left_brace ts [] ts (t.LeftBrace ∷ []) p.Empty
+    (refl, within_zero limit) refl (λ x s after good quiet e. ap (begins is_left_brace) e) refl off

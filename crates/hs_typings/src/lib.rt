@@ -1,5 +1,5 @@
-//! Readers of declarations that bind nothing (Haskell 2010 Report, sections 4.4.1 and 4.4.2): the types of variables, and
-//! how tightly operators bind.
+//! Readers of declarations that bind nothing (Haskell 2010 Report, sections 4.4.1 and 4.4.2): the types of variables,
+//! and how tightly operators bind.
 #![tactic(auto)]
 
 mod declarations;

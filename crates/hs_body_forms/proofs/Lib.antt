@@ -1,0 +1,5 @@
+pub mod TopDeclLemmas
+pub mod PartLemmas
+pub mod PartChainLemmas
+pub mod FlattenLemmas
+pub mod ModuleLemmas

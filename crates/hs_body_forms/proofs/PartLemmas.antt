@@ -1,0 +1,218 @@
+-- The parts of a module's block, each behind the token before it.
+use Rattle.std.proofs.Common.{◌≡◌, ℕ, ◌+◌, Bool, true, false, List, [], ◌∷◌, ◌++◌, length, refl, sym, ap, ◌∙◌, arith}
+use Rattle.std.proofs.Common.{true≢false, subst, inl, inr, ◌⊎◌, append_assoc}
+use Rattle.std.proofs.lemmas.List.{append-nil}
+use Rattle.std.specs.Prelude.{not, max, map, ◌&&◌, ◌||◌, Option, None}
+use Rattle.std.proofs.lemmas.Bool.{and_from}
+use Rattle.hs_forms.specs.Reading.{begins, SameStart, Reads}
+use Rattle.hs_forms.specs.Limits.{Within}
+use Rattle.hs_forms.specs.Productions.{Chain}
+use Rattle.hs_forms.specs.Answers.{Accepts, Fails}
+use Rattle.hs_forms.specs.declared.fault.Fault.{Fault}
+use Rattle.hs_forms.proofs.FormLemmas.{begins_same, begins_append, reads_behind, same_start_append}
+use Rattle.hs_forms.proofs.LimitLemmas.{and_left, and_right, within_zero, or_left, or_right}
+use Rattle.hs_tokens.specs.declared.terminal.Terminal.{Terminal}
+use Rattle.hs_tokens.specs.declared.terminal.Terminal.TheVariants as t
+use Rattle.hs_trees.specs.Patterns.{Ts}
+use Rattle.hs_modules.specs.ModuleTokens.{import_tokens, top_decl_tokens, top_slot_tokens}
+use Rattle.hs_modules.specs.ModuleForms.{is_top_decl, is_import_list}
+use Rattle.hs_modules.specs.declared.module.ImpDeclTree.{ImpDeclTree}
+use Rattle.hs_modules.specs.declared.declarations.TopDeclTree.{TopDeclTree}
+use Rattle.hs_modules.specs.declared.declarations.TopSlot.{TopSlot}
+use Rattle.hs_modules.specs.declared.declarations.TopSlot.TheVariants as v
+use Rattle.hs_headers.specs.Names.{is_import_word, goes_on}
+use Rattle.hs_headers.specs.Headers.{import_form}
+use Rattle.hs_expression_forms.specs.Trees.{Trees, Took, Failed, behind_token, within}
+use Rattle.hs_expression_forms.proofs.TreesLemmas.{behind_took, behind_failed, Stays, stays_first}
+use Rattle.hs_block_forms.specs.Combined.{Heads}
+use Rattle.hs_block_forms.specs.Blocks.{ends_item, is_semicolon}
+use Rattle.hs_block_forms.proofs.CombinedLemmas.{headed_chain}
+use Rattle.hs_declaration_forms.proofs.FlatLemmas.{flat_took, flat_failed}
+use Rattle.hs_declaration_forms.proofs.MergeLemmas.{Joins, joined_took, joined_failed}
+use Rattle.hs_body_forms.specs.declared.parts.TopPart.{TopPart}
+use Rattle.hs_body_forms.specs.declared.parts.TopPart.TheVariants as p
+use Rattle.hs_body_forms.specs.Bodies.{top_decls, later_slots, decl_runs, parts, part_tokens, is_part}
+use Rattle.hs_signature_forms.specs.Signatures.{imports}
+use Rattle.hs_signature_forms.proofs.SigDeclLemmas.{busy, import_flat}
+use Rattle.hs_signature_forms.proofs.PartLemmas.{Blank}
+use Rattle.hs_body_forms.proofs.TopDeclLemmas.{top_decl_busy, decl_no_import}
+
+-- places behind a declaration
+pub slot_blank : Blank later_slots v.Empty
+slot_blank = record { tokens = refl; formed = refl; deep = refl; others = others }
+  where
+    others : (x : TopSlot) → later_slots.formed x ≡ true →
+        (x ≡ v.Empty) ⊎ ((after : Ts) → begins busy (top_slot_tokens x ++ after) ≡ true)
+    others v.Empty g = inl refl
+    others (v.Import i) g = inr (λ after. refl)
+    others (v.Decl d) g = inr (λ after. top_decl_busy d after (and_left (is_top_decl d) true g))
+
+abbrev pub make_slot : TopDeclTree → TopSlot
+make_slot d = v.Decl d
+
+pub slot_joins : Joins later_slots top_decls make_slot (begins busy)
+slot_joins = record {
+  tokens = λ d. refl;
+  formed = λ d g. and_from (is_top_decl d) true g refl;
+  deep = λ d. refl;
+  extends = λ d k e. e;
+  starts = λ d after g. top_decl_busy d after g;
+  only = only;
+}
+  where
+    only : (x : TopSlot) (after : Ts) → later_slots.formed x ≡ true → begins busy after ≡ false →
+        begins busy (top_slot_tokens x ++ after) ≡ true →
+        (d : TopDeclTree) × (x ≡ make_slot d) × (is_top_decl d ≡ true)
+    only v.Empty after g q e = absurd (true≢false (sym e ∙ q))
+    only (v.Import i) after g q e = absurd (true≢false (sym (and_right (is_import_list i.list) false g)))
+    only (v.Decl d) after g q e = (d, refl, and_left (is_top_decl d) true g)
+
+semicolon_idle : (k : Terminal) → is_semicolon k ≡ true → busy k ≡ false
+semicolon_idle t.Semicolon h = refl
+semicolon_idle _ h = absurd (true≢false (sym h))
+
+pub run_heads : Heads top_decls (behind_token t.Semicolon later_slots) is_semicolon
+run_heads = record {
+  starts = λ x. refl;
+  apart_head = λ h k e. semicolon_idle k e;
+  apart = λ x k e. semicolon_idle k e;
+}
+
+abbrev pub Run : Type 0
+Run = TopDeclTree × List TopSlot
+
+abbrev pub run_chain : Option ℕ → Chain Terminal Run TopDeclTree TopSlot
+run_chain limit =
+    headed_chain top_decls (behind_token t.Semicolon later_slots) is_semicolon run_heads None limit
+    (within (behind_token t.Semicolon later_slots) limit).Good (Unit {0}) (λ r x g. g) (λ x g. (tt, g))
+
+module _ (limit : Option ℕ) (k : Terminal) (here : Ts) where
+  pub slot_took : (d : TopDeclTree) (rest : Ts) (m : ℕ) → Took top_decls limit here d rest m →
+      Took (behind_token k later_slots) limit (k ∷ here) (make_slot d) rest m
+  slot_took d rest m acc =
+      behind_took later_slots limit k (k ∷ here) here (make_slot d) rest m refl
+      (joined_took later_slots top_decls make_slot (begins busy) slot_joins limit here d rest m acc)
+
+  pub slot_failed : begins busy here ≡ true → (e : Fault) → Failed top_decls limit here e →
+      Failed (behind_token k later_slots) limit (k ∷ here) e
+  slot_failed on e r =
+      behind_failed later_slots limit k (k ∷ here) here e refl
+      (joined_failed later_slots top_decls make_slot (begins busy) slot_joins limit here e (stays_first busy here on) r)
+
+-- parts
+run_busy : (d : TopDeclTree) (ss : List TopSlot) (after : Ts) → decl_runs.formed (d, ss) ≡ true →
+    begins busy (decl_runs.tokens (d, ss) ++ after) ≡ true
+run_busy d ss after g =
+    begins_append busy (decl_runs.tokens (d, ss)) after (begins_append busy (top_decl_tokens d) _ (first d
+    (and_left (is_top_decl d) _ g)))
+  where
+    first : (d : TopDeclTree) → is_top_decl d ≡ true → begins busy (top_decl_tokens d) ≡ true
+    first d g = ap (begins busy) (sym (append-nil (top_decl_tokens d))) ∙ top_decl_busy d [] g
+
+pub part_blank : Blank parts p.Empty
+part_blank = record { tokens = refl; formed = refl; deep = refl; others = others }
+  where
+    others : (x : TopPart) → is_part x ≡ true →
+        (x ≡ p.Empty) ⊎ ((after : Ts) → begins busy (part_tokens x ++ after) ≡ true)
+    others p.Empty g = inl refl
+    others (p.Import i) g = inr (λ after. refl)
+    others (p.Decls d ss) g = inr (λ after. run_busy d ss after g)
+
+abbrev pub make_import : ImpDeclTree → TopPart
+make_import x = p.Import x
+
+import_ends : (k : Terminal) → busy k ≡ false → goes_on k ≡ false
+import_ends t.Semicolon h = refl
+import_ends t.RightBrace h = refl
+import_ends _ h = absurd (true≢false h)
+
+pub import_joins : Joins parts imports make_import (begins is_import_word)
+import_joins = record {
+  tokens = λ x. refl;
+  formed = λ x g. g;
+  deep = λ x. refl;
+  extends = λ x k e. import_ends k e;
+  starts = λ x after g. refl;
+  only = only;
+}
+  where
+    quiet_import : (after : Ts) → begins busy after ≡ false → begins is_import_word after ≡ false
+    quiet_import [] q = refl
+    quiet_import (t.Semicolon ∷ after) q = refl
+    quiet_import (t.RightBrace ∷ after) q = refl
+    quiet_import (_ ∷ after) q = absurd (true≢false q)
+
+    only : (x : TopPart) (after : Ts) → is_part x ≡ true → begins (parts.extends x) after ≡ false →
+        begins is_import_word (part_tokens x ++ after) ≡ true →
+        (i : ImpDeclTree) × (x ≡ make_import i) × (is_import_list i.list ≡ true)
+    only p.Empty after g q e = absurd (true≢false (sym e ∙ quiet_import after q))
+    only (p.Import i) after g q e = (i, refl, g)
+    only (p.Decls d ss) after g q e =
+        absurd (true≢false (sym e ∙ ap (begins is_import_word) (append_assoc (top_decl_tokens d) _ after)
+        ∙ decl_no_import d _ (and_left (is_top_decl d) _ g)))
+
+-- something else than an import stands there
+abbrev pub other_part : Terminal → Bool
+other_part k = busy k && not (is_import_word k)
+
+abbrev pub make_run : Run → TopPart
+make_run x = p.Decls x.0 x.1
+
+pub run_joins : Joins parts decl_runs make_run (begins other_part)
+run_joins = record {
+  tokens = λ x. refl;
+  formed = λ x g. g;
+  deep = λ x. refl;
+  extends = λ x k e. e;
+  starts = λ x after g. other (decl_runs.tokens x ++ after) (run_busy x.0 x.1 after g)
+      (ap (begins is_import_word) (append_assoc (top_decl_tokens x.0) _ after)
+      ∙ decl_no_import x.0 _ (and_left (is_top_decl x.0) _ g));
+  only = only;
+}
+  where
+    other : (ts : Ts) → begins busy ts ≡ true → begins is_import_word ts ≡ false → begins other_part ts ≡ true
+    other [] h e = h
+    other (k ∷ ts) h e = and_from (busy k) (not (is_import_word k)) h (ap not e)
+
+    idle : (after : Ts) → begins busy after ≡ false → begins other_part after ≡ false
+    idle [] q = refl
+    idle (k ∷ after) q = ap (λ b. b && not (is_import_word k)) q
+
+    only : (x : TopPart) (after : Ts) → is_part x ≡ true → begins (parts.extends x) after ≡ false →
+        begins other_part (part_tokens x ++ after) ≡ true →
+        (r : Run) × (x ≡ make_run r) × (decl_runs.formed r ≡ true)
+    only p.Empty after g q e = absurd (true≢false (sym e ∙ idle after q))
+    only (p.Import i) after g q e = absurd (true≢false (sym e))
+    only (p.Decls d ss) after g q e = ((d, ss), refl, g)
+
+module _ (limit : Option ℕ) (k : Terminal) (here : Ts) where
+  pub import_took : (x : ImpDeclTree) (rest : Ts) (m : ℕ) → Accepts import_form (λ x. 0) here x rest m →
+      Took (behind_token k parts) limit (k ∷ here) (make_import x) rest m
+  import_took x rest m acc =
+      behind_took parts limit k (k ∷ here) here (make_import x) rest m refl
+      (joined_took parts imports make_import (begins is_import_word) import_joins limit here x rest m
+      (flat_took import_form imports import_flat limit here x rest m acc))
+
+  pub import_failed : begins is_import_word here ≡ true → (e : Fault) → Fails import_form here e →
+      Failed (behind_token k parts) limit (k ∷ here) e
+  import_failed on e r =
+      behind_failed parts limit k (k ∷ here) here e refl
+      (joined_failed parts imports make_import (begins is_import_word) import_joins limit here e
+      (stays_first is_import_word here on) (flat_failed import_form imports import_flat limit here e r))
+
+  pub run_took : (x : Run) (rest : Ts) (m : ℕ) → Took decl_runs limit here x rest m →
+      Took (behind_token k parts) limit (k ∷ here) (make_run x) rest m
+  run_took x rest m acc =
+      behind_took parts limit k (k ∷ here) here (make_run x) rest m refl
+      (joined_took parts decl_runs make_run (begins other_part) run_joins limit here x rest m acc)
+
+  pub run_failed : begins busy here ≡ true → begins is_import_word here ≡ false → (e : Fault) →
+      Failed decl_runs limit here e → Failed (behind_token k parts) limit (k ∷ here) e
+  run_failed on off e r =
+      behind_failed parts limit k (k ∷ here) here e refl
+      (joined_failed parts decl_runs make_run (begins other_part) run_joins limit here e
+      (stays_first other_part here (other here on off)) r)
+    where
+      other : (ts : Ts) → begins busy ts ≡ true → begins is_import_word ts ≡ false → begins other_part ts ≡ true
+      other [] h e = h
+      other (k ∷ ts) h e = and_from (busy k) (not (is_import_word k)) h (ap not e)

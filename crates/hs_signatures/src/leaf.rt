@@ -1,0 +1,54 @@
+//! Looks at the next terminals.
+ghost use Rattle.std.specs.Prelude.{◌≡◌, ◌∷◌, MatchOption, false};
+ghost use Rattle.hs_forms.specs.Reading.{begins};
+ghost use Rattle.hs_tokens.specs.declared.terminal.Terminal.TheVariants as t;
+ghost use Rattle.hs_headers.specs.Names.{is_import_word};
+ghost use Rattle.hs_block_forms.specs.Blocks.{is_left_brace, is_right_brace, is_semicolon};
+ghost use Rattle.hs_signature_forms.proofs.SigDeclLemmas.{busy};
+
+use hs_headers::after_import;
+use hs_tokens::Terminal;
+
+/// What stands after a `{`.
+pub fn after_left_brace(tokens: &[Terminal]) -> Option<&[Terminal]>
+    ensures { MatchOption result (begins is_left_brace tokens.now ≡ false) (λ rest. tokens.now ≡ t.LeftBrace ∷ rest.now) }
+{
+    match tokens.split_first() {
+        Some((Terminal::LeftBrace, rest)) => Some(rest),
+        _ => None,
+    }
+}
+
+/// What stands after a `}`.
+pub fn after_right_brace(tokens: &[Terminal]) -> Option<&[Terminal]>
+    ensures { MatchOption result (begins is_right_brace tokens.now ≡ false) (λ rest. tokens.now ≡ t.RightBrace ∷ rest.now) }
+{
+    match tokens.split_first() {
+        Some((Terminal::RightBrace, rest)) => Some(rest),
+        _ => None,
+    }
+}
+
+/// Whether a `;` stands here.
+pub fn begins_semicolon(tokens: &[Terminal]) -> bool
+    ensures { result ≡ begins is_semicolon tokens.now }
+{
+    matches!(tokens.first(), Some(Terminal::Semicolon))
+}
+
+/// Whether a token stands here that ends no place of a block.
+pub fn begins_place(tokens: &[Terminal]) -> bool
+    ensures { result ≡ begins busy tokens.now }
+{
+    match tokens.first() {
+        None | Some(Terminal::Semicolon | Terminal::RightBrace) => false,
+        _ => true,
+    }
+}
+
+/// Whether `import` stands here.
+pub fn begins_import(tokens: &[Terminal]) -> bool
+    ensures { result ≡ begins is_import_word tokens.now }
+{
+    after_import(tokens).is_some()
+}

@@ -1,0 +1,155 @@
+//! The parts of a signature's block.
+ghost use Rattle.std.specs.Prelude.{◌≡◌, ◌∷◌, ◌+◌, ◌<◌, ◌^◌, ◌↔◌, ℕ, Option, IsTrue, true, length, map, max};
+ghost use Rattle.hs_forms.specs.Reading.{begins};
+ghost use Rattle.hs_forms.specs.Limits.{deepest};
+ghost use Rattle.hs_tokens.specs.declared.terminal.Terminal.{Terminal};
+ghost use Rattle.hs_tokens.specs.declared.terminal.Terminal.TheVariants.{Semicolon};
+ghost use Rattle.hs_readers.specs.Answers.{Answers, item_sort};
+ghost use Rattle.hs_expression_forms.specs.Trees.{sort_of, behind_token};
+ghost use Rattle.hs_block_forms.specs.Blocks.{is_semicolon};
+ghost use Rattle.hs_signature_forms.specs.Signatures.{decl_runs, later_slots, parts};
+ghost use Rattle.hs_signature_forms.proofs.PartLemmas.{run_chain};
+
+use crate::declarations::read_sig_decl;
+use crate::leaf::{begins_import, begins_place, begins_semicolon};
+use hs_forms::Fault;
+use hs_headers::read_import;
+use hs_modules::{SigDeclTree, SigSlot};
+use hs_readers::{Chained, Read, after, read_chain};
+use hs_signature_forms::SigPart;
+use hs_tokens::Terminal;
+use sqlite_items::Items;
+use std::alloc::Global;
+
+/// A declaration and the places behind it.
+pub struct RunChain;
+
+impl Chained for RunChain {
+    type Tree = (SigDeclTree, Items<SigSlot>);
+
+    type Head = SigDeclTree;
+
+    type Item = SigSlot;
+
+    type Limit = Option<usize>;
+
+    ghost chain = { run_chain };
+
+    ghost depth = { decl_runs.deep };
+
+    fn begins_item(tokens: &[Terminal]) -> bool {
+        begins_semicolon(tokens)
+    }
+
+    fn has_room(
+        _limit: Option<usize>,
+        _deep: usize,
+        _head: &SigDeclTree,
+        _items: &Items<SigSlot>,
+    ) -> bool {
+        true
+    }
+
+    fn make(head: SigDeclTree, items: Items<SigSlot>) -> (SigDeclTree, Items<SigSlot>)
+        ensures { (limit : Option ℕ) → result ≡ (run_chain limit).make head items }
+    {
+        (head, items)
+    }
+
+    fn total(deep: usize, _count: usize) -> usize {
+        deep
+    }
+}
+
+/// A place behind a declaration, behind the token before it.
+fn read_slot<'a>(
+    alloc: Global,
+    tokens: &'a [Terminal],
+    limit: Option<usize>,
+) -> Result<Read<'a, SigSlot>, Fault>
+    ensures { (before : Terminal) → Answers (sort_of (behind_token before later_slots) limit) (before ∷ tokens.now) result }
+{
+    if !begins_place(tokens) {
+        return Ok(Read {
+            tree: SigSlot::Empty,
+            rest: tokens,
+            depth: 0,
+        });
+    }
+    let decl = read_sig_decl(alloc, tokens, limit)?;
+    Ok(Read {
+        tree: SigSlot::Decl(decl.tree),
+        rest: decl.rest,
+        depth: decl.depth,
+    })
+}
+
+/// A place behind a `;`.
+fn read_next<'a>(
+    alloc: Global,
+    tokens: &'a [Terminal],
+    limit: Option<usize>,
+    count: usize,
+) -> Result<Read<'a, SigSlot>, Fault>
+    requires { begins is_semicolon tokens.now ≡ true }
+    ensures { Answers (item_sort (run_chain limit) count) tokens.now result }
+{
+    let _ = &count;
+    read_slot(alloc, after(tokens, 1), limit)
+}
+
+/// A declaration and the places behind it, of which none is an import.
+pub fn read_run<'a>(
+    alloc: Global,
+    tokens: &'a [Terminal],
+    limit: Option<usize>,
+) -> Result<Read<'a, (SigDeclTree, Items<SigSlot>)>, Fault>
+    ensures { Answers (sort_of decl_runs limit) tokens.now result }
+{
+    let head = read_sig_decl(alloc, tokens, limit)?;
+    read_chain::<RunChain, _>(
+        alloc,
+        tokens,
+        limit,
+        head,
+        |here, count|
+            requires starts { begins is_semicolon here.now ≡ true }
+            ensures { Answers (item_sort (run_chain limit) count) here.now result }
+        {
+            let _ = &tokens;
+            read_next(alloc, here, limit, count)
+        },
+    )
+}
+
+/// A part of a block, behind the token before it: nothing, an import, or a declaration with the places behind it.
+pub fn read_sig_part<'a>(
+    alloc: Global,
+    tokens: &'a [Terminal],
+    limit: Option<usize>,
+) -> Result<Read<'a, SigPart>, Fault>
+    ensures { (before : Terminal) → Answers (sort_of (behind_token before parts) limit) (before ∷ tokens.now) result }
+{
+    if !begins_place(tokens) {
+        return Ok(Read {
+            tree: SigPart::Empty,
+            rest: tokens,
+            depth: 0,
+        });
+    }
+    if begins_import(tokens) {
+        let import = read_import(alloc, tokens)?;
+        return Ok(Read {
+            tree: SigPart::Import(import.tree),
+            rest: import.rest,
+            depth: import.depth,
+        });
+    }
+    let run = read_run(alloc, tokens, limit)?;
+    let (decl, slots) = run.tree;
+    Ok(Read {
+        tree: SigPart::Decls(decl, slots),
+        rest: run.rest,
+        depth: run.depth,
+    })
+}
