@@ -75,7 +75,8 @@ clause_function_err names env old ps r v m many h x =
 
 module _ (names : List Declared) (env : List Binder) (old : Equations) (middle : State) (ps : List Pat) (r : Rhs)
     (v m own : ℕ) (parts slice : List ℕ) (own_is : own ≡ length old.kinds.items)
-    (parts_are : parts ≡ range_with_len (length old.kinds.items + 1) m) (slice_is : slice ≡ parts) (many : m ≡ length ps)
+    (parts_are : parts ≡ range_with_len (length old.kinds.items + 1) m) (slice_is : slice ≡ parts)
+    (many : m ≡ length ps)
     (h : FunctionEntered (state_of old) middle v m) where
   abbrev w : ℕ
   w = length (map kind_term old.kinds.items)
@@ -107,7 +108,8 @@ module _ (names : List Declared) (env : List Binder) (old : Equations) (middle :
       (λ G binders g xs t.
       (subst (λ z. MeantRightSide G g.kinds r (only z []) (g.types w)) (sym (names-append g binders env)) t.0, t.1))
       (clause_head names env ps r v x (state_of old) middle entered)
-      (λ G K q o s. let p = subst (λ z. PatternsInferred names start pushed middle next ps z) slice_are rows G K q s.1 in
+      (λ G K q o s. let p = subst (λ z. PatternsInferred names start pushed middle next ps z) slice_are rows G K q s.1
+      in
       (p.binders, a ∙ ap (λ z. z ++ env) (p.pushed ∙ ap (λ z. z ++ p.binders) e), p.imposes))
 
   pub clause_patterns_err : PatternsRefused names middle ps slice → ClauseRefused names env (state_of old) ps r v

@@ -13,9 +13,9 @@ use infer_patterns::{Declared, infer_pats};
 use std::alloc::Global;
 use type_equations::{Binder, Equations};
 
-/// Makes a clause of a function have the type of the unknown `wanted`, where locals are seen, the newest first, and names
-/// of modules are known. NoTyping comes only where no guess that meets the equations gives it that type, and Uncovered
-/// only where local declarations or an annotation occur in it.
+/// Makes a clause of a function have the type of the unknown `wanted`, where locals are seen, the newest first, and
+/// names of modules are known. NoTyping comes only where no guess that meets the equations gives it that type, and
+/// Uncovered only where local declarations or an annotation occur in it.
 pub fn infer_clause(
     alloc: Global,
     pats: &[Pat],
