@@ -62,6 +62,7 @@ pub operands-local : (ks : List KindTerm) (w l r u : ℕ) → AreStars ks (w ∷
 operands-local ks w l r u s g h bs a t = (
   sym (a.types w (slice_get_within ks w star s.0)) ∙ t.0
       ∙ ap₂ function (a.types l (slice_get_within ks l star s.1.0))
-      (ap₂ function (a.types r (slice_get_within ks r star s.1.1.0)) (a.types u (slice_get_within ks u star s.1.1.1.0))),
+      (ap₂ function (a.types r (slice_get_within ks r star s.1.1.0))
+      (a.types u (slice_get_within ks u star s.1.1.1.0))),
   t.1,
 )

@@ -35,9 +35,11 @@ use Rattle.infer_expressions.specs.Entered.{Leads, function_parts, ApplicationEn
 use Rattle.infer_expressions.specs.Entered.{TestRefused, SectionEntered, SectionRefused, LambdaEntered, LambdaRefused}
 use Rattle.infer_expressions.specs.declared.refusal.Refusal.{Refusal}
 use Rattle.infer_expressions.proofs.LeadLemmas.{leads_end, leads_none, leads_part, leads_part_none}
-use Rattle.infer_expressions.proofs.HeadLemmas.{exp_has, exp_meant, exps_have, exps_meant, alts_have, alts_meant, and_then}
+use Rattle.infer_expressions.proofs.HeadLemmas.{exp_has, exp_meant, exps_have, exps_meant, alts_have, alts_meant}
+use Rattle.infer_expressions.proofs.HeadLemmas.{and_then}
 use Rattle.infer_expressions.proofs.HeadLemmas.{exp_asks, exps_ask, alts_ask, pair_asks, application_leads}
-use Rattle.infer_expressions.proofs.HeadLemmas.{application_none, if_leads, if_none, tuple_leads, tuple_none, list_leads}
+use Rattle.infer_expressions.proofs.HeadLemmas.{application_none, if_leads, if_none, tuple_leads, tuple_none}
+use Rattle.infer_expressions.proofs.HeadLemmas.{list_leads}
 use Rattle.infer_expressions.proofs.HeadLemmas.{list_none, case_leads, section_leads, section_none}
 
 -- ---- refusals
@@ -166,7 +168,8 @@ module _ (names : List Declared) (env : List Binder) where
 
     abbrev Whole : State → Type 0
     Whole mid = Leads names env (v ∷ []) (exp_has (Apply fun args) env v) (exp_meant (Apply fun args) env v)
-        (and_then (exp_has fun env w) (exps_have args env ids)) (and_then (exp_meant fun env w) (exps_meant args env ids))
+        (and_then (exp_has fun env w) (exps_have args env ids))
+        (and_then (exp_meant fun env w) (exps_meant args env ids))
         env (w ∷ ids) (state_of old) mid
 
     head : (middle : State) → ApplicationEntered (state_of old) middle v m → Whole middle
@@ -213,7 +216,8 @@ module _ (names : List Declared) (env : List Binder) where
 
   -- ---- lambdas
 
-  pub lambda_ok : (old middle new : State) (exp e body : Exp) (ps pats : List Pat) (v own : ℕ) (scope slice : List Binder)
+  pub lambda_ok : (old middle new : State) (exp e body : Exp) (ps pats : List Pat) (v own : ℕ)
+      (scope slice : List Binder)
       → exp ≡ Lambda pats body → e ≡ body → ps ≡ pats → slice ≡ scope
       → LambdaEntered names env old middle ps v own scope → ExpInferred names slice middle new e own
       → ExpInferred names env old new exp v
@@ -315,7 +319,8 @@ module _ (names : List Declared) (env : List Binder) where
 
   -- ---- tuples and lists
 
-  pub tuple_ok : (old : Equations) (middle new : State) (exp : Exp) (es parts : List Exp) (v m : ℕ) (made slice : List ℕ)
+  pub tuple_ok : (old : Equations) (middle new : State) (exp : Exp) (es parts : List Exp) (v m : ℕ)
+      (made slice : List ℕ)
       → exp ≡ Tuple parts → es ≡ parts → m ≡ length parts → made ≡ range_with_len (length old.kinds.items) m
       → slice ≡ made → TupleEntered (state_of old) middle v m → ExpsInferred names env middle new es slice
       → ExpInferred names env (state_of old) new exp v
@@ -391,10 +396,12 @@ module _ (names : List Declared) (env : List Binder) where
         (kinds_behind old.kinds.items mid.kinds.items 1 kinds)
 
     case_head : Leads names env (v ∷ []) (exp_has (Case e alts) env v) (exp_meant (Case e alts) env v)
-        (and_then (exp_has e env of) (alts_have alts env of v)) (and_then (exp_meant e env of) (alts_meant alts env of v))
+        (and_then (exp_has e env of) (alts_have alts env of v))
+        (and_then (exp_meant e env of) (alts_meant alts env of v))
         env (of ∷ v ∷ []) (state_of old) (state_of mid)
     case_head = subst (λ z. Leads names env (v ∷ []) (exp_has (Case e alts) env v) (exp_meant (Case e alts) env v)
-        (and_then (exp_has e env of) (alts_have alts env of v)) (and_then (exp_meant e env of) (alts_meant alts env of v))
+        (and_then (exp_has e env of) (alts_have alts env of v))
+        (and_then (exp_meant e env of) (alts_meant alts env of v))
         env (of ∷ v ∷ []) (state_of old) z) (sym mid_is) (case_leads names env v (state_of old) e alts)
 
     case_alts : (next : State) → ExpInferred names env (state_of mid) next e own
@@ -428,7 +435,8 @@ module _ (names : List Declared) (env : List Binder) where
 
   -- ---- right sections
 
-  module _ (old : Equations) (exp op e op' e' : Exp) (v own right : ℕ) (is : exp ≡ RightSection op' e') (op_is : op ≡ op')
+  module _ (old : Equations) (exp op e op' e' : Exp) (v own right : ℕ) (is : exp ≡ RightSection op' e')
+      (op_is : op ≡ op')
       (e_is : e ≡ e') (own_is : own ≡ length old.kinds.items + 1 + 1 + 1)
       (right_is : right ≡ length old.kinds.items + 1) where
     abbrev n : ℕ
@@ -473,7 +481,8 @@ module _ (names : List Declared) (env : List Binder) where
     section_operator_err middle h k = subst (RefusedAt names env (state_of old) v) section_is
         (leads_part_none names env (v ∷ []) (exp_has (RightSection op e) env v) (exp_meant (RightSection op e) env v)
         (exp_has op env (n + 1 + 1 + 1)) (exp_meant op env (n + 1 + 1 + 1)) (exp_has e env (n + 1))
-        (exp_meant e env (n + 1)) env ((n + 1 + 1 + 1) ∷ (n + 1) ∷ []) ((n + 1 + 1 + 1) ∷ []) ((n + 1) ∷ []) (state_of old)
+        (exp_meant e env (n + 1)) env ((n + 1 + 1 + 1) ∷ (n + 1) ∷ []) ((n + 1 + 1 + 1) ∷ []) ((n + 1) ∷ [])
+        (state_of old)
         middle (λ ks s. ((s.0, tt), s.1)) (section_head middle h)
         (not_at middle op op own (n + 1 + 1 + 1) refl own_at k))
 
@@ -487,4 +496,5 @@ module _ (names : List Declared) (env : List Binder) where
 
   pub section_head_err : (old : State) (exp op e : Exp) (v : ℕ) → exp ≡ RightSection op e → SectionRefused old v
       → ExpRefused names env old exp v
-  section_head_err old exp op e v is h = subst (RefusedAt names env old v) (sym is) (section_none names env v old op e h)
+  section_head_err old exp op e v is h = subst (RefusedAt names env old v) (sym is)
+      (section_none names env v old op e h)

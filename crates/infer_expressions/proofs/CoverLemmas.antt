@@ -2,7 +2,8 @@
 use Rattle.std.proofs.Common.{◌≡◌, refl, subst, inl, inr, List, [], ◌∷◌}
 use denote.Hole.Carrier.{hidden, out, roll}
 use Rattle.hs_core.specs.declared.tree.Exp.{Exp}
-use Rattle.hs_core.specs.declared.tree.Exp.TheVariants.{Apply, Lambda, Let, If, Case, Tuple, List as ListOf, RightSection}
+use Rattle.hs_core.specs.declared.tree.Exp.TheVariants.{Apply, Lambda, Let, If, Case, Tuple, List as ListOf}
+use Rattle.hs_core.specs.declared.tree.Exp.TheVariants.{RightSection}
 use Rattle.hs_core.specs.declared.tree.Exp.TheVariants.{Annot}
 use Rattle.hs_core.specs.declared.tree.Written.{Written}
 use Rattle.hs_core.specs.declared.tree.Pat.{Pat}
@@ -16,7 +17,8 @@ use Rattle.hs_core.specs.declared.tree.Decl.TheViews.{roll-Rhs, roll-out-Rhs}
 use Rattle.hs_core.specs.declared.tree.Decl.TheBlock.{hidden-the_row-Exp-0, hidden-the_row-Exp-1, hidden-the_row-Decl-2}
 use Rattle.hs_core.specs.declared.tree.Decl.TheBlock.{hidden-the_row-Alt-3, hidden-the_row-Guard-4}
 use Rattle.hs_core.specs.declared.tree.Decl.TheBlock.{hidden-the_row-Choice-5}
-use Rattle.infer_expressions.specs.Covered.{IsUncovered, AnyDecl, AnyUncovered, AnyAltUncovered, IsAltUncovered, IsSideUncovered}
+use Rattle.infer_expressions.specs.Covered.{IsUncovered, AnyDecl, AnyUncovered, AnyAltUncovered, IsAltUncovered}
+use Rattle.infer_expressions.specs.Covered.{IsSideUncovered}
 use Rattle.infer_expressions.specs.Covered.{AnyChoiceUncovered, AnyGuardUncovered, SomeUncovered, SomeAltUncovered}
 use Rattle.infer_expressions.specs.Covered.{SomeGuardUncovered, IsGuardUncovered, SomeChoiceUncovered}
 

@@ -294,7 +294,8 @@ section_state old mid s k = state_behind (state_of old) (state_of mid) section_k
     (kinds_behind old.kinds.items mid.kinds.items 4 k)
 
 -- what is known of the unknowns and types of a right section
-pub record SectionHead (old mid : Equations) (v l r u w : ℕ) (whole from to ty front ends right rest left operator : Plain)
+pub record SectionHead (old mid : Equations) (v l r u w : ℕ) (whole from to ty front ends right rest left
+    operator : Plain)
     : Type 0 where
   pub bindings : mid.bindings ≡ old.bindings
   pub kinds : mid.kinds.items ≡ old.kinds.items ++ Star ∷ Star ∷ Star ∷ Star ∷ []

@@ -159,7 +159,10 @@ module _ (names : List Declared) (env : List Binder) (v : ℕ) where
       head_leads names env v (exp_has (If a b c) env v) (exp_meant (If a b c) env v)
       (and_then (exp_has a env w) (and_then (exp_has b env v) (exp_has c env v)))
       (and_then (exp_meant a env w) (and_then (exp_meant b env v) (exp_meant c env v))) old new (star ∷ []) (var w)
-      plain_boolean (w ∷ v ∷ []) (λ G s. ((new_stars old.kinds 1).0, (slice_get-front old.kinds (star ∷ []) v star s, tt)))
+      plain_boolean (w ∷ v ∷ []) (λ G s. (
+        (new_stars old.kinds 1).0,
+        (slice_get-front old.kinds (star ∷ []) v star s, tt),
+      ))
       (pair_asks (exp_meant a env w) (and_then (exp_meant b env v) (exp_meant c env v)) env (w ∷ v ∷ []) (w ∷ [])
       (v ∷ []) (exp_asks a env w)
       (pair_asks (exp_meant b env v) (exp_meant c env v) env (v ∷ []) (v ∷ []) (v ∷ []) (exp_asks b env v)
@@ -311,6 +314,7 @@ module _ (names : List Declared) (env : List Binder) (v : ℕ) where
             (section_meant G op e env n (n + 1) (n + 1 + 1) (n + 1 + 1 + 1)) (var v) (section_type old) old
             section_kinds r (λ g xs m t. section_takes G K.syntax old op e env v o s.0 g xs m t) q
         | inr q ↦ left_unequal G (has_type G (RightSection op e) env v) (meant_type G (RightSection op e) env v)
-            (section_has G op e env n (n + 1) (n + 1 + 1) (n + 1 + 1 + 1)) (parts_meant op e n G) (var (n + 1 + 1 + 1)) (operator_type old) old q.0 q.2
+            (section_has G op e env n (n + 1) (n + 1 + 1) (n + 1 + 1 + 1)) (parts_meant op e n G) (var (n + 1 + 1 + 1))
+            (operator_type old) old q.0 q.2
             (section_first G K.syntax old q.0 op e r o s q.1)
       ]

@@ -21,7 +21,8 @@ use Rattle.infer_expressions.specs.Entered.{Leads, HeadEntered, HeadRefused}
 
 -- what is asked of some locals and unknowns speaks of them alone
 abbrev pub AsksOnly : (Globals → Demand) → List Binder → List ℕ → Type 0
-AsksOnly b scope left = (G : Globals) (ks : List KindTerm) → AllStar ks scope → AreStars ks left → IsLocal (length ks) (b G)
+AsksOnly b scope left = (G : Globals) (ks : List KindTerm) → AllStar ks scope → AreStars ks left → IsLocal (length ks)
+    (b G)
 
 -- some unknowns, in two lists
 abbrev pub Splits : List ℕ → List ℕ → List ℕ → Type 0

@@ -13,7 +13,8 @@ use Rattle.type_equations.specs.declared.equations.Binder.{Binder}
 use Rattle.type_equations.specs.Demands.{Demand, nothing}
 use Rattle.type_equations.proofs.DemandLemmas.{imposed_nothing, imposed_so}
 use Rattle.infer_patterns.specs.declared.names.Declared.{Declared}
-use Rattle.expression_demands.specs.Expressions.{has_guarded, meant_guarded, have_choices, meant_choices, EachMeantChoice}
+use Rattle.expression_demands.specs.Expressions.{has_guarded, meant_guarded, have_choices, meant_choices}
+use Rattle.expression_demands.specs.Expressions.{EachMeantChoice}
 use Rattle.expression_demands.specs.Expressions.{is_alternative, meant_alternative, have_types, meant_types}
 use Rattle.expression_demands.specs.Expressions.{have_alternatives, meant_alternatives}
 use Rattle.expression_demands.proofs.RowLemmas.{next_gives, next_takes}
@@ -28,7 +29,8 @@ use Rattle.infer_expressions.specs.Inferred.{AltInferred, AltRefused, AltsInferr
 use Rattle.infer_expressions.specs.Inferred.{ChoicesRefused}
 use Rattle.infer_expressions.specs.Entered.{Leads, GuardsInferred, GuardsRefused}
 use Rattle.infer_expressions.proofs.LeadLemmas.{AsksOnly, leads_end, leads_none, leads_part, leads_part_none, leads_so}
-use Rattle.infer_expressions.proofs.HeadLemmas.{exp_has, exp_meant, exps_have, exps_meant, alts_have, alts_meant, and_then}
+use Rattle.infer_expressions.proofs.HeadLemmas.{exp_has, exp_meant, exps_have, exps_meant, alts_have, alts_meant}
+use Rattle.infer_expressions.proofs.HeadLemmas.{and_then}
 use Rattle.infer_expressions.proofs.HeadLemmas.{exps_ask, alts_ask}
 use Rattle.infer_expressions.proofs.ScopeLemmas.{leads_all}
 
@@ -82,7 +84,8 @@ module _ (names : List Declared) (env : List Binder) (es : List Exp) (vs : List 
   left = drop (i + 1) vs
 
   exps_split : Leads names env vs (exps_have es env vs) (exps_meant es env vs)
-      (and_then (exp_has e env v) (exps_have rest env left)) (and_then (exp_meant e env v) (exps_meant rest env left)) env
+      (and_then (exp_has e env v) (exps_have rest env left)) (and_then (exp_meant e env v) (exps_meant rest env left))
+      env
       (v ∷ left) old now
   exps_split = leads_so names env vs (exps_have es env vs) (exps_meant es env vs) (exps_have (e ∷ rest) env (v ∷ left))
       (exps_meant (e ∷ rest) env (v ∷ left)) (and_then (exp_has e env v) (exps_have rest env left))
@@ -107,7 +110,8 @@ pub exps_end : (names : List Declared) (env : List Binder) (es : List Exp) (vs :
     → length es ≤ i → length es ≡ length vs → ExpsLeft names env es vs i old now
     → ExpsInferred names env old now es vs
 exps_end names env es vs i old now l n h =
-    leads_end names env vs (exps_have es env vs) (exps_meant es env vs) (exps_have [] env []) (exps_meant [] env []) env []
+    leads_end names env vs (exps_have es env vs) (exps_meant es env vs) (exps_have [] env []) (exps_meant [] env [])
+    env []
     old now now
     (subst (λ z. Leads names env vs (exps_have es env vs) (exps_meant es env vs) (exps_have [] env z)
     (exps_meant [] env z) env z old now) (drop_all i vs (omega (arith, l, n)))
@@ -142,11 +146,13 @@ module _ (names : List Declared) (env : List Binder) (alts : List Alt) (u v i : 
   one_meant = λ G. meant_alternative G a env u v
 
   alts_split : Leads names env (u ∷ v ∷ []) (alts_have alts env u v) (alts_meant alts env u v)
-      (and_then one_has (alts_have others env u v)) (and_then one_meant (alts_meant others env u v)) env (u ∷ v ∷ []) old
+      (and_then one_has (alts_have others env u v)) (and_then one_meant (alts_meant others env u v)) env (u ∷ v ∷ [])
+      old
       now
   alts_split = leads_so names env (u ∷ v ∷ []) (alts_have alts env u v) (alts_meant alts env u v)
       (alts_have (a ∷ others) env u v) (alts_meant (a ∷ others) env u v)
-      (and_then one_has (alts_have others env u v)) (and_then one_meant (alts_meant others env u v)) env (u ∷ v ∷ []) old
+      (and_then one_has (alts_have others env u v)) (and_then one_meant (alts_meant others env u v)) env (u ∷ v ∷ [])
+      old
       now (λ G g xs s m t. alternatives_give G a others env u v g xs t)
       (λ G g xs t. alternatives_take G a others env u v g xs t)
       (subst (λ z. Leads names env (u ∷ v ∷ []) (alts_have alts env u v) (alts_meant alts env u v)
@@ -154,12 +160,14 @@ module _ (names : List Declared) (env : List Binder) (alts : List Alt) (u v i : 
 
   pub alts_next : (new : State) → AltInferred names env now new a u v → AltsLeft names env alts u v (i + 1) old new
   alts_next new p = leads_part names env (u ∷ v ∷ []) (alts_have alts env u v) (alts_meant alts env u v) one_has
-      one_meant (alts_have others env u v) (alts_meant others env u v) env (u ∷ v ∷ []) (u ∷ v ∷ []) (u ∷ v ∷ []) old now
+      one_meant (alts_have others env u v) (alts_meant others env u v) env (u ∷ v ∷ []) (u ∷ v ∷ []) (u ∷ v ∷ []) old
+      now
       new (λ ks s. (s, s)) (alts_ask others env u v) alts_split p
 
   pub alts_none : AltRefused names env now a u v → AltsRefused names env old alts u v
   alts_none p = leads_part_none names env (u ∷ v ∷ []) (alts_have alts env u v) (alts_meant alts env u v) one_has
-      one_meant (alts_have others env u v) (alts_meant others env u v) env (u ∷ v ∷ []) (u ∷ v ∷ []) (u ∷ v ∷ []) old now
+      one_meant (alts_have others env u v) (alts_meant others env u v) env (u ∷ v ∷ []) (u ∷ v ∷ []) (u ∷ v ∷ []) old
+      now
       (λ ks s. (s, s)) alts_split p
 
 pub alts_end : (names : List Declared) (env : List Binder) (alts : List Alt) (u v i : ℕ) (old now : State)
@@ -185,7 +193,8 @@ choices_ask choices env v G ks o s = local-one ks env v (λ k n t. EachMeantChoi
 
 abbrev pub ChoicesLeft : List Declared → List Binder → List Choice → ℕ → ℕ → State → State → Type 0
 ChoicesLeft names env choices v i old now = Leads names env (v ∷ []) (choices_have choices env v)
-    (choices_meant choices env v) (choices_have (drop i choices) env v) (choices_meant (drop i choices) env v) env (v ∷ [])
+    (choices_meant choices env v) (choices_have (drop i choices) env v) (choices_meant (drop i choices) env v) env
+    (v ∷ [])
     old now
 
 pub choices_start : (names : List Declared) (env : List Binder) (choices : List Choice) (v : ℕ) (old : State)
@@ -208,11 +217,13 @@ module _ (names : List Declared) (env : List Binder) (choices : List Choice) (v 
   this_meant = λ G. meant_guarded G c.guards c.exp env v
 
   choices_split : Leads names env (v ∷ []) (choices_have choices env v) (choices_meant choices env v)
-      (and_then this_has (choices_have behind env v)) (and_then this_meant (choices_meant behind env v)) env (v ∷ []) old
+      (and_then this_has (choices_have behind env v)) (and_then this_meant (choices_meant behind env v)) env (v ∷ [])
+      old
       now
   choices_split = leads_so names env (v ∷ []) (choices_have choices env v) (choices_meant choices env v)
       (choices_have (c ∷ behind) env v) (choices_meant (c ∷ behind) env v)
-      (and_then this_has (choices_have behind env v)) (and_then this_meant (choices_meant behind env v)) env (v ∷ []) old
+      (and_then this_has (choices_have behind env v)) (and_then this_meant (choices_meant behind env v)) env (v ∷ [])
+      old
       now (λ G g xs s m t. choices_give G c behind env v g xs t) (λ G g xs t. choices_take G c behind env v g xs t)
       (subst (λ z. Leads names env (v ∷ []) (choices_have choices env v) (choices_meant choices env v)
       (choices_have z env v) (choices_meant z env v) env (v ∷ []) old now) (drop_more choices i d l) h)
@@ -228,7 +239,8 @@ module _ (names : List Declared) (env : List Binder) (choices : List Choice) (v 
       → ExpInferred names slice mid new exp v → ChoicesLeft names env choices v (i + 1) old new
   choices_next scope slice guards exp mid new e f g p q =
       leads_part names env (v ∷ []) (choices_have choices env v) (choices_meant choices env v) this_has this_meant
-      (choices_have behind env v) (choices_meant behind env v) env (v ∷ []) (v ∷ []) (v ∷ []) old now new (λ ks s. (s, s))
+      (choices_have behind env v) (choices_meant behind env v) env (v ∷ []) (v ∷ []) (v ∷ []) old now new
+      (λ ks s. (s, s))
       (choices_ask behind env v) choices_split
       (guarded_done scope mid new (subst (GuardsInferred names env scope now mid) f p)
       (subst (λ z. ExpInferred names scope mid new z v) g (subst (λ z. ExpInferred names z mid new exp v) e q)))
@@ -247,7 +259,8 @@ module _ (names : List Declared) (env : List Binder) (choices : List Choice) (v 
       leads_part_none names env (v ∷ []) (choices_have choices env v) (choices_meant choices env v) this_has this_meant
       (choices_have behind env v) (choices_meant behind env v) env (v ∷ []) (v ∷ []) (v ∷ []) old now (λ ks s. (s, s))
       choices_split
-      (leads_none names env (v ∷ []) this_has this_meant (exp_has c.exp scope v) (exp_meant c.exp scope v) scope (v ∷ [])
+      (leads_none names env (v ∷ []) this_has this_meant (exp_has c.exp scope v) (exp_meant c.exp scope v) scope
+      (v ∷ [])
       now mid (subst (GuardsInferred names env scope now mid) f p c.exp v)
       (subst (λ z. ExpRefused names scope mid z v) g (subst (λ z. ExpRefused names z mid exp v) e n)))
 

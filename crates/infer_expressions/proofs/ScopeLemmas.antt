@@ -84,7 +84,8 @@ pattern_seen names env start pushed after old new p u e a h G K r s =
 
 module _ (names : List Declared) (env : List Binder) (old : Equations) (middle : State) (ps : List Pat) (v m own : ℕ)
     (parts slice : List ℕ) (own_is : own ≡ length old.kinds.items)
-    (parts_are : parts ≡ range_with_len (length old.kinds.items + 1) m) (slice_is : slice ≡ parts) (many : m ≡ length ps)
+    (parts_are : parts ≡ range_with_len (length old.kinds.items + 1) m) (slice_is : slice ≡ parts)
+    (many : m ≡ length ps)
     (h : FunctionEntered (state_of old) middle v m) where
   abbrev w : ℕ
   w = length (map kind_term old.kinds.items)
@@ -133,7 +134,8 @@ lambda_function_err names env old ps v m many h e =
 alternative_leads : (names : List Declared) (env after : List Binder) (old mid : State) (a : Alt) (u v : ℕ)
     → PatternSeen names env after old mid (out-Alt a).pat u
     → Leads names env (u ∷ v ∷ []) (λ G. is_alternative G a env u v) (λ G. meant_alternative G a env u v)
-    (λ G. is_right_side G (out-Alt a).rhs after v) (λ G. meant_right_side G (out-Alt a).rhs after v) after (v ∷ []) old mid
+    (λ G. is_right_side G (out-Alt a).rhs after v) (λ G. meant_right_side G (out-Alt a).rhs after v) after (v ∷ []) old
+    mid
 alternative_leads names env after old mid a u v h =
     let p = (out-Alt a).pat in
     let r = (out-Alt a).rhs in
@@ -200,7 +202,8 @@ test_leaves : (G : Globals) (names : List Declared) (env : List Binder) (old mid
     (meant_type G e env (length old.kinds)) old mid
 test_leaves G names env old mid e K r o h =
     let n = length old.kinds in
-    head_left G (has_guard G (Test e) env) (meant_guard G (Test e) env) (has_type G e env n) (meant_type G e env n) (var n)
+    head_left G (has_guard G (Test e) env) (meant_guard G (Test e) env) (has_type G e env n) (meant_type G e env n)
+    (var n)
     plain_boolean old mid (star ∷ []) r
     (meant-local G (old.kinds ++ star ∷ []) e env n (stars-front old.kinds (star ∷ []) env o) (new_stars old.kinds 1).0)
     (λ g xs m t. test_gives G e env n g xs t) (λ g xs m t. test_takes G old e env o g xs t) (h G K.syntax r)
@@ -302,7 +305,8 @@ module _ (names : List Declared) (env : List Binder) (old mid : Equations) (x : 
 abbrev pub GuardsLeft : List Declared → List Binder → List Guard → ℕ → List Binder → State → State → Type 0
 GuardsLeft names env guards i scope old now = (e : Exp) (v : ℕ) → Leads names env (v ∷ [])
     (λ G. has_guarded G guards e env v) (λ G. meant_guarded G guards e env v)
-    (λ G. has_guarded G (drop i guards) e scope v) (λ G. meant_guarded G (drop i guards) e scope v) scope (v ∷ []) old now
+    (λ G. has_guarded G (drop i guards) e scope v) (λ G. meant_guarded G (drop i guards) e scope v) scope (v ∷ []) old
+    now
 
 pub guards_start : (names : List Declared) (env start scope : List Binder) (guards : List Guard) (old : State)
     → start ≡ [] → scope ≡ start ++ env → GuardsLeft names env guards 0 scope old old

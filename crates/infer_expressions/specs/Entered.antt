@@ -93,7 +93,8 @@ SectionRefused old v = (G : Globals) → KnowsSyntax G → IsReady G old → Are
 
 -- the body of a lambda is left, at an unknown, where its variables are seen
 abbrev pub LambdaEntered : List Declared → List Binder → State → State → List Pat → ℕ → ℕ → List Binder → Type 0
-LambdaEntered names env old new ps v w scope = (e : Exp) → Leads names env (v ∷ []) (λ G. has_type G (Lambda ps e) env v)
+LambdaEntered names env old new ps v w scope = (e : Exp) → Leads names env (v ∷ [])
+    (λ G. has_type G (Lambda ps e) env v)
     (λ G. meant_type G (Lambda ps e) env v) (λ G. has_type G e scope w) (λ G. meant_type G e scope w) scope (w ∷ [])
     old new
 
@@ -107,4 +108,5 @@ GuardsInferred names env after old new guards = (e : Exp) (v : ℕ) → Leads na
     (λ G. meant_type G e after v) after (v ∷ []) old new
 
 abbrev pub GuardsRefused : List Declared → List Binder → State → List Guard → Type 0
-GuardsRefused names env old guards = (e : Exp) (v : ℕ) → Refused names env (v ∷ []) (λ G. meant_guarded G guards e env v) old
+GuardsRefused names env old guards = (e : Exp) (v : ℕ) → Refused names env (v ∷ [])
+    (λ G. meant_guarded G guards e env v) old

@@ -17,9 +17,9 @@ use infer_patterns::{Declared, enter_list, enter_literal, enter_tuple, string};
 use std::alloc::Global;
 use type_equations::{Binder, Equations, character, integer};
 
-/// Makes an expression have the type of the unknown `wanted`, where locals are seen, the newest first, and names of modules
-/// are known. NoTyping comes only where no guess that meets the equations gives it that type, and Uncovered only where
-/// local declarations or an annotation occur in it. Recursion goes no deeper than the expression.
+/// Makes an expression have the type of the unknown `wanted`, where locals are seen, the newest first, and names of
+/// modules are known. NoTyping comes only where no guess that meets the equations gives it that type, and Uncovered
+/// only where local declarations or an annotation occur in it. Recursion goes no deeper than the expression.
 #[cycle(exp)]
 pub fn infer_exp(
     alloc: Global,

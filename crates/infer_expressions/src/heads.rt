@@ -93,8 +93,9 @@ pub(crate) fn enter_application(
     Ok((own, parts))
 }
 
-// The wanted type is a function from new unknowns to one.
-pub(crate) fn enter_function(
+/// Makes the unknown `wanted` a function from so many new unknowns to one, which it returns in front of them. NoTyping
+/// comes exactly where it can't.
+pub fn enter_function(
     alloc: Global,
     many: usize,
     wanted: u64,

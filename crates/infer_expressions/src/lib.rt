@@ -7,4 +7,6 @@ mod refusal;
 mod scope;
 
 pub use expression::{infer_alt, infer_exp, infer_exps, infer_side};
+pub use heads::enter_function;
 pub use refusal::Refusal;
+pub use scope::scope_of;

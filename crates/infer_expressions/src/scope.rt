@@ -19,8 +19,8 @@ pub(crate) fn find_local(env: &[Binder], name: &Name) -> Option<u64>
     None
 }
 
-// Locals in front of others.
-pub(crate) fn scope_of(
+/// Locals in front of others.
+pub fn scope_of(
     alloc: Global,
     mut binders: Vec<Binder>,
     env: &[Binder],

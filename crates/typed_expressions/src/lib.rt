@@ -12,7 +12,7 @@ use infer_patterns::Declared;
 use std::alloc::Global;
 use type_equations::{Binder, Equations};
 
-/// Finds that an expression has a type, where it sees these names of modules and no local. NoTyping comes exactly where it
+/// Finds that an expression has a type, where it sees these names of modules and no local. NoTyping comes only where it
 /// has none, and Uncovered only where local declarations or an annotation occur in it.
 pub fn find_type(alloc: Global, exp: &Exp, names: &[Declared]) -> Result<(), Refusal>
     ensures typed { OnOk result (HasSomeType names.now exp.now) }

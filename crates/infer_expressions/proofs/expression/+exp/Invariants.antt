@@ -4,7 +4,8 @@ use Rattle.infer_expressions.proofs.ScopeLemmas.{GuardsLeft}
 use Rattle.infer_expressions.proofs.expression.+exp.Given as goal
 
 abbrev pub invariant-infer_exps-loop-index : goal.invariant-infer_exps-loop-index
-invariant-infer_exps-loop-index l = ExpsLeft l.names l.env l.exps l.wanted l.index (state_of l.fn.state) (state_of l.state)
+invariant-infer_exps-loop-index l = ExpsLeft l.names l.env l.exps l.wanted l.index (state_of l.fn.state)
+    (state_of l.state)
 
 abbrev pub invariant-infer_alts-loop-index : goal.invariant-infer_alts-loop-index
 invariant-infer_alts-loop-index l =

@@ -9,14 +9,16 @@ use Rattle.infer_expressions.proofs.heads.enter_application.Goals as goal
 pub returns-in_err-equate-clause-none : goal.returns-in_err-equate-clause-none
 returns-in_err-equate-clause-none c =
     let p = err_from_is_err_and c.from_residual-in_err-equate.result c.from_residual-in_err-equate.ensures.1 in
-    rw (p.1, p.2) (λ z. application_err c.args.state.now c.function_unknowns.new.state c.args.wanted c.args.many c.in_ok-own.own
+    rw (p.1, p.2) (λ z. application_err c.args.state.now c.function_unknowns.new.state c.args.wanted c.args.many
+    c.in_ok-own.own
     c.in_ok-own.parts.items c.as_slice.result.now c.in_ok-front.front c.in_ok-result.result c.in_ok-ty.ty
     c.in_ok-own.ensures.same c.in_ok-own.ensures.kinds c.in_ok-own.ensures.own c.in_ok-own.ensures.parts
     c.as_slice.ensures.value c.in_ok-front.ensures c.in_ok-result.ensures c.in_ok-ty.ensures
     (c.in_err-equate.ensures.none z))
 
 pub returns-clause-ok : goal.returns-clause-ok
-returns-clause-ok c = application_ok c.args.state.now c.function_unknowns.new.state (state_of c.equate.new.self) c.args.wanted
+returns-clause-ok c = application_ok c.args.state.now c.function_unknowns.new.state (state_of c.equate.new.self)
+    c.args.wanted
     c.args.many c.in_ok-own.own c.in_ok-own.parts.items c.as_slice.result.now c.in_ok-front.front c.in_ok-result.result
     c.in_ok-ty.ty c.in_ok-own.ensures.same c.in_ok-own.ensures.kinds c.in_ok-own.ensures.own c.in_ok-own.ensures.parts
     c.as_slice.ensures.value c.in_ok-front.ensures c.in_ok-result.ensures c.in_ok-ty.ensures c.in_ok-equate.ensures.ok

@@ -1,0 +1,5 @@
+//! Worked values of `infer_expressions`.
+#![tactic(auto)]
+
+#[cfg(test)]
+mod tests;
