@@ -72,7 +72,12 @@ pub fn variables_of(alloc: Global, ty: &Written) -> Result<Names, AllocError>
 }
 
 /// The least kind of a type with these variables; NoKind exactly where it has none.
-pub fn least_kind(alloc: Global, ty: &Written, names: &[Name], known: &[Known]) -> Result<Kind, Failure>
+pub fn least_kind(
+    alloc: Global,
+    ty: &Written,
+    names: &[Name],
+    known: &[Known],
+) -> Result<Kind, Failure>
     ensures ok { IfOk result (λ k. HasKindAlone (known_names known.now) (written_term names.now ty.now) (count names.now) (kind_term k)) }
     ensures none { IfErr result (λ e. e ≡ Failure.NoKind → HasNoKind (known_names known.now) (written_term names.now ty.now) (count names.now)) }
 {
