@@ -11,14 +11,16 @@ unfolding entities_give
 returns-in_err-entity_gives c =
     let p = err_from_is_err_and c.from_residual.result c.from_residual.ensures.1 in
     rw (p.1, p.2) (refused_here
-    (λ done x. entity_gives (Some 1000) (known_kind c.args.env.now.names) (known_synonyms c.args.env.now.names) x) c.args.entities.now c.loop-index.all c.loop-index.index c.index-entities-index.result
+    (λ done x. entity_gives (Some 1000) (known_kind c.args.env.now.names) (known_synonyms c.args.env.now.names) x)
+    c.args.entities.now c.loop-index.all c.loop-index.index c.index-entities-index.result
     c.in_err-entity_gives.field-0.0 c.loop-index.invariant c.loop-index-test.true c.index-entities-index.is
     c.in_err-entity_gives.ensures)
 
 pub loop-index-preserved : goal.loop-index-preserved
 loop-index-preserved c =
     one_more
-    (λ done x. entity_gives (Some 1000) (known_kind c.args.env.now.names) (known_synonyms c.args.env.now.names) x) c.args.entities.now c.loop-index.all c.loop-index.index c.index-entities-index.result
+    (λ done x. entity_gives (Some 1000) (known_kind c.args.env.now.names) (known_synonyms c.args.env.now.names) x)
+    c.args.entities.now c.loop-index.all c.loop-index.index c.index-entities-index.result
     c.in_ok-entity_gives.field-0 c.push.new.self c.loop-index.invariant c.loop-index-test.true c.index-entities-index.is
     c.in_ok-entity_gives.ensures c.in_ok-push.ensures.ok
 
@@ -26,5 +28,6 @@ pub returns : goal.returns
 unfolding entities_give
 returns c =
     at_the_end
-    (λ done x. entity_gives (Some 1000) (known_kind c.args.env.now.names) (known_synonyms c.args.env.now.names) x) c.args.entities.now c.loop-index.all c.loop-index.index c.loop-index.invariant
+    (λ done x. entity_gives (Some 1000) (known_kind c.args.env.now.names) (known_synonyms c.args.env.now.names) x)
+    c.args.entities.now c.loop-index.all c.loop-index.index c.loop-index.invariant
     c.loop-index-test.false
