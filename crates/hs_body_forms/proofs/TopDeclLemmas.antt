@@ -37,74 +37,9 @@ use Rattle.hs_declaration_forms.specs.Datatypes.{type_decls, declares_type, star
 use Rattle.hs_declaration_forms.proofs.MadeLemmas.{begins_none, stays_off}
 use Rattle.hs_declaration_forms.proofs.MergeLemmas.{Joins, joined_took, joined_failed}
 use Rattle.hs_signature_forms.proofs.SigDeclLemmas.{busy}
-use Rattle.hs_body_forms.specs.Bodies.{top_decls, decls}
-
--- what the first token of a declaration is not: what declares a type, what ends an item, an import
-pub record Starts (ts : Ts) : Type 0 where
-  pub no_type : begins starts_type_decl ts ≡ false
-  pub place : begins busy ts ≡ true
-  pub no_import : begins is_import_word ts ≡ false
-
-var_first : (x : VarTree) (more : Ts) → Starts (var_tokens x ++ more)
-var_first (va.Id m) more = record { no_type = refl; place = refl; no_import = refl }
-var_first (va.Sym m) more = record { no_type = refl; place = refl; no_import = refl }
-
-pat_first : (ts more : Ts) → starts_pat ts ≡ true → Starts (ts ++ more)
-pat_first [] more h = absurd (true≢false (sym h))
-pat_first (t.Var n ∷ ts) more h = record { no_type = refl; place = refl; no_import = refl }
-pat_first (t.Con n ∷ ts) more h = record { no_type = refl; place = refl; no_import = refl }
-pat_first (t.VarSym n ∷ ts) more h = record { no_type = refl; place = refl; no_import = refl }
-pat_first (t.Integer n ∷ ts) more h = record { no_type = refl; place = refl; no_import = refl }
-pat_first (t.Char n ∷ ts) more h = record { no_type = refl; place = refl; no_import = refl }
-pat_first (t.Text n ∷ ts) more h = record { no_type = refl; place = refl; no_import = refl }
-pat_first (t.LeftParen ∷ ts) more h = record { no_type = refl; place = refl; no_import = refl }
-pat_first (t.LeftBracket ∷ ts) more h = record { no_type = refl; place = refl; no_import = refl }
-pat_first (t.Underscore ∷ ts) more h = record { no_type = refl; place = refl; no_import = refl }
-pat_first (t.Tilde ∷ ts) more h = record { no_type = refl; place = refl; no_import = refl }
-pat_first (_ ∷ ts) more h = absurd (true≢false (sym h))
-
--- the left side of a function
-left_layer : (l : FunLhsTree-F FunLhsTree) (more : Ts) → Starts (spelling_fun_lhs (roll-FunLhsTree l) ++ more)
-left_layer (FunLhsTree-F.Prefix x p ps) more =
-    subst Starts (sym (ap (λ l. l ++ more) (fold-roll-FunLhsTree Ts fun_lhs_tokens (FunLhsTree-F.Prefix x p ps))
-    ∙ append_assoc (var_tokens x) _ more)) (var_first x _)
-left_layer (FunLhsTree-F.Infix l op r) more =
-    subst Starts (sym (ap (λ l. l ++ more) (fold-roll-FunLhsTree Ts fun_lhs_tokens (FunLhsTree-F.Infix l op r))
-    ∙ append_assoc (spelling_lpat l) _ more)) (pat_first (spelling_lpat l) _ (lpat_starts l))
-left_layer (FunLhsTree-F.Parens x p ps) more =
-    subst Starts (sym (ap (λ l. l ++ more) (fold-roll-FunLhsTree Ts fun_lhs_tokens (FunLhsTree-F.Parens x p ps))))
-    (record { no_type = refl; place = refl; no_import = refl })
-
-left_first : (x : FunLhsTree) (more : Ts) → Starts (spelling_fun_lhs x ++ more)
-left_first x more = subst (λ y. Starts (spelling_fun_lhs y ++ more)) (roll-out-FunLhsTree x)
-    (left_layer (out-FunLhsTree x) more)
-
-word_first : (w : Fixity) (more : Ts) → Starts (fixity_word w ∷ more)
-word_first f.Left more = record { no_type = refl; place = refl; no_import = refl }
-word_first f.Right more = record { no_type = refl; place = refl; no_import = refl }
-word_first f.Neither more = record { no_type = refl; place = refl; no_import = refl }
-
-regrouped : (a b c d : Ts) → ((a ++ b) ++ c) ++ d ≡ a ++ (b ++ (c ++ d))
-regrouped a b c d = simp append_assoc
-
-decl_layer : (l : DeclTrees) (more : Ts) → Starts (spelling_decl (roll-DeclTree l) ++ more)
-unfolding token_algebra
-decl_layer (DeclTree-F.Signature x xs ty) more =
-    subst Starts (sym (ap (λ l. l ++ more) (decl_folded token_algebra (DeclTree-F.Signature x xs ty))
-    ∙ regrouped (var_tokens x) _ _ more)) (var_first x _)
-decl_layer (DeclTree-F.Fixity w l op ops) more =
-    subst Starts (sym (ap (λ l. l ++ more) (decl_folded token_algebra (DeclTree-F.Fixity w l op ops))))
-    (word_first w _)
-decl_layer (DeclTree-F.Function l r) more =
-    subst Starts (sym (ap (λ l. l ++ more) (decl_folded token_algebra (DeclTree-F.Function l r))
-    ∙ append_assoc (spelling_fun_lhs l) (spelling_rhs r) more)) (left_first l _)
-decl_layer (DeclTree-F.Pattern p r) more =
-    subst Starts (sym (ap (λ l. l ++ more) (decl_folded token_algebra (DeclTree-F.Pattern p r))
-    ∙ append_assoc (spelling_pat p) (spelling_rhs r) more)) (pat_first (spelling_pat p) _ (pat_starts p))
-
-pub decl_first : (x : DeclTree) (more : Ts) → Starts (spelling_decl x ++ more)
-decl_first x more = subst (λ y. Starts (spelling_decl y ++ more)) (roll-out-DeclTree x)
-    (decl_layer (out-DeclTree x) more)
+use Rattle.hs_binding_forms.specs.Bindings.{decls}
+use Rattle.hs_binding_forms.proofs.DeclStartLemmas.{decl_first}
+use Rattle.hs_body_forms.specs.Bodies.{top_decls}
 
 -- the declarations of types among all
 abbrev as_it_is : TopDeclTree → TopDeclTree

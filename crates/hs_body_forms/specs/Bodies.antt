@@ -12,10 +12,6 @@ use Rattle.hs_modules.specs.ModuleTokens.{import_tokens, top_decl_tokens, top_sl
 use Rattle.hs_modules.specs.ModuleForms.{is_import_list, is_top_decl, is_top_slot, is_top_block}
 use Rattle.hs_modules.specs.ModuleForms.{top_imports, module_form}
 use Rattle.hs_modules.specs.Modules.{depth_of_module}
-use Rattle.hs_modules.specs.Tokens.{spelling_decl}
-use Rattle.hs_modules.specs.Formed.{facts_of_decl}
-use Rattle.hs_modules.specs.ExpressionExtents.{extent_of_decl}
-use Rattle.hs_modules.specs.declared.expressions.DeclTree.{DeclTree}
 use Rattle.hs_modules.specs.declared.module.ImpDeclTree.{ImpDeclTree}
 use Rattle.hs_modules.specs.declared.module.Module.{Module}
 use Rattle.hs_modules.specs.declared.declarations.TopDeclTree.{TopDeclTree}
@@ -28,15 +24,6 @@ use Rattle.hs_block_forms.specs.Combined.{headed}
 use Rattle.hs_block_forms.specs.Blocks.{ends_item, is_semicolon}
 use Rattle.hs_body_forms.specs.declared.parts.TopPart.{TopPart}
 use Rattle.hs_body_forms.specs.declared.parts.TopPart.TheVariants as p
-
--- the declarations of blocks, up to what ends them
-abbrev pub decls : Trees Terminal DeclTree
-decls = record {
-  tokens = spelling_decl;
-  formed = λ x. (facts_of_decl x).good;
-  deep = λ x. (extent_of_decl x).depth;
-  extends = λ x k. not (ends_item k);
-}
 
 -- the top declarations of a module
 abbrev pub top_decls : Trees Terminal TopDeclTree

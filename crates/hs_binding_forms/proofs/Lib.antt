@@ -1,0 +1,3 @@
+pub mod DeclStartLemmas
+pub mod DeclBlockLemmas
+pub mod ListingLemmas

@@ -1,0 +1,179 @@
+//! Blocks of declarations (Haskell 2010 Report, sections 3.12 and 4.4.3), of operands and blocks that readers are given
+//! for.
+ghost use Rattle.std.specs.Prelude.{◌↔◌, IsTrue, max, map, ◌≡◌, ◌∷◌, ◌<◌, ◌≤◌, ◌+◌, ◌^◌, ℕ, Option, List, IfOk, length, true};
+ghost use Rattle.hs_forms.specs.Reading.{begins};
+ghost use Rattle.hs_forms.specs.Limits.{deepest};
+ghost use Rattle.hs_tokens.specs.declared.terminal.Terminal.{Terminal};
+ghost use Rattle.hs_readers.specs.Answers.{Answers, item_sort};
+ghost use Rattle.hs_expression_forms.specs.Trees.{behind_token, sort_of};
+ghost use Rattle.hs_expression_forms.specs.Expressions.{decl_blocks, operands};
+ghost use Rattle.hs_block_forms.specs.Blocks.{is_semicolon};
+ghost use Rattle.hs_binding_forms.specs.Bindings.{decl_items, decl_slots};
+ghost use Rattle.hs_binding_forms.proofs.DeclBlockLemmas.{decl_chain, from_block};
+
+use crate::declarations::read_decl;
+use crate::leaf::begins_place;
+use hs_blocks::{after_left_brace, after_right_brace, begins_semicolon};
+use hs_forms::Fault;
+use hs_modules::{DeclBlock, DeclSlot, OperandTree};
+use hs_readers::{Chained, Read, after, read_chain};
+use hs_tokens::Terminal;
+use sqlite_items::{Boxed, Items};
+use std::alloc::{AllocError, Global};
+
+/// What stands between the braces of a block of declarations.
+pub struct DeclItems {}
+
+impl Chained for DeclItems {
+    type Tree = (DeclSlot, Items<DeclSlot>);
+
+    type Head = DeclSlot;
+
+    type Item = DeclSlot;
+
+    type Limit = Option<usize>;
+
+    ghost chain = { decl_chain };
+
+    ghost depth = { decl_items.deep };
+
+    fn begins_item(tokens: &[Terminal]) -> bool {
+        begins_semicolon(tokens)
+    }
+
+    fn has_room(
+        _limit: Option<usize>,
+        _deep: usize,
+        _head: &DeclSlot,
+        _items: &Items<DeclSlot>,
+    ) -> bool {
+        true
+    }
+
+    fn make(head: DeclSlot, items: Items<DeclSlot>) -> (DeclSlot, Items<DeclSlot>)
+        ensures { (limit : Option ℕ) → result ≡ (decl_chain limit).make head items }
+    {
+        (head, items)
+    }
+
+    fn total(deep: usize, _count: usize) -> usize {
+        deep
+    }
+}
+
+/// A declaration or none, behind a token.
+fn read_decl_slot<
+    'a,
+    F: Fn(&[Terminal], Option<usize>) -> Result<Read<'_, OperandTree>, Fault>,
+    D: Fn(&[Terminal], Option<usize>) -> Result<Read<'_, DeclBlock>, Fault>,
+>(
+    alloc: Global,
+    tokens: &'a [Terminal],
+    limit: Option<usize>,
+    operand: &F,
+    block: &D,
+) -> Result<Read<'a, DeclSlot>, Fault>
+    requires some { 0 < length tokens.now }
+    requires may { (here : _) (l : _) → length here.now < length tokens.now → F.pre operand.now here l }
+    requires says { (here : _) (l : _) (r : _) → F.post operand.now here l r → Answers (sort_of operands l) here.now r }
+    requires may_decls { (here : _) (l : _) → length here.now < length tokens.now → D.pre block.now here l }
+    requires says_decls { (here : _) (l : _) (r : _) → D.post block.now here l r → Answers (sort_of decl_blocks l) here.now r }
+    ensures { (k : Terminal) (next : List Terminal) → tokens.now ≡ k ∷ next → Answers (sort_of (behind_token k decl_slots) limit) tokens.now result }
+{
+    let next = after(tokens, 1);
+    if !begins_place(next) {
+        return Ok(Read {
+            tree: DeclSlot::NoDecl,
+            rest: next,
+            depth: 0,
+        });
+    }
+    let decl = read_decl(alloc, next, limit, operand, block)?;
+    Ok(Read {
+        tree: DeclSlot::Decl(decl.tree),
+        rest: decl.rest,
+        depth: decl.depth,
+    })
+}
+
+/// What stands between the braces of a block of declarations, at its `{`.
+fn read_decl_items<
+    'a,
+    F: Fn(&[Terminal], Option<usize>) -> Result<Read<'_, OperandTree>, Fault>,
+    D: Fn(&[Terminal], Option<usize>) -> Result<Read<'_, DeclBlock>, Fault>,
+>(
+    alloc: Global,
+    tokens: &'a [Terminal],
+    limit: Option<usize>,
+    operand: &F,
+    block: &D,
+) -> Result<Read<'a, (DeclSlot, Items<DeclSlot>)>, Fault>
+    requires may { (here : _) (l : _) → length here.now < length tokens.now → F.pre operand.now here l }
+    requires says { (here : _) (l : _) (r : _) → F.post operand.now here l r → Answers (sort_of operands l) here.now r }
+    requires may_decls { (here : _) (l : _) → length here.now < length tokens.now → D.pre block.now here l }
+    requires says_decls { (here : _) (l : _) (r : _) → D.post block.now here l r → Answers (sort_of decl_blocks l) here.now r }
+    ensures { Answers (sort_of decl_items limit) tokens.now result }
+{
+    if after_left_brace(tokens).is_none() {
+        return Err(Fault::At(tokens.len()));
+    }
+    let head = read_decl_slot(alloc, tokens, limit, operand, block)?;
+    read_chain::<DeclItems, _>(
+        alloc,
+        tokens,
+        limit,
+        head,
+        |here, count|
+            requires less { count + length here.now < length tokens.now }
+            requires starts { begins is_semicolon here.now ≡ true }
+            requires may { (there : _) (l : _) → length there.now < length tokens.now → F.pre operand.now there l }
+            requires says { (there : _) (l : _) (r : _) → F.post operand.now there l r → Answers (sort_of operands l) there.now r }
+            requires may_decls { (there : _) (l : _) → length there.now < length tokens.now → D.pre block.now there l }
+            requires says_decls { (there : _) (l : _) (r : _) → D.post block.now there l r → Answers (sort_of decl_blocks l) there.now r }
+            ensures { Answers (item_sort (decl_chain limit) count) here.now result }
+        {
+            let _ = &tokens;
+            let _ = &count;
+            read_decl_slot(alloc, here, limit, operand, block)
+        },
+    )
+}
+
+/// The block of these places.
+fn block_of(
+    alloc: Global,
+    places: (DeclSlot, Items<DeclSlot>),
+) -> Result<DeclBlock, AllocError>
+    ensures { IfOk result (λ block. block ≡ from_block places) }
+{
+    let (first, rest) = places;
+    let first = Boxed::new(alloc, first)?;
+    Ok(DeclBlock { first, rest })
+}
+
+/// `"{" [decl] {";" [decl]} "}"`
+pub fn read_decl_block<
+    'a,
+    F: Fn(&[Terminal], Option<usize>) -> Result<Read<'_, OperandTree>, Fault>,
+    D: Fn(&[Terminal], Option<usize>) -> Result<Read<'_, DeclBlock>, Fault>,
+>(
+    alloc: Global,
+    tokens: &'a [Terminal],
+    limit: Option<usize>,
+    operand: &F,
+    block: &D,
+) -> Result<Read<'a, DeclBlock>, Fault>
+    requires may { (here : _) (l : _) → length here.now < length tokens.now → F.pre operand.now here l }
+    requires says { (here : _) (l : _) (r : _) → F.post operand.now here l r → Answers (sort_of operands l) here.now r }
+    requires may_decls { (here : _) (l : _) → length here.now < length tokens.now → D.pre block.now here l }
+    requires says_decls { (here : _) (l : _) (r : _) → D.post block.now here l r → Answers (sort_of decl_blocks l) here.now r }
+    ensures { Answers (sort_of decl_blocks limit) tokens.now result }
+{
+    let items = read_decl_items(alloc, tokens, limit, operand, block)?;
+    let Some(rest) = after_right_brace(items.rest) else {
+        return Err(Fault::At(items.rest.len()));
+    };
+    let depth = items.depth;
+    let tree = block_of(alloc, items.tree)?;
+    Ok(Read { tree, rest, depth })
+}

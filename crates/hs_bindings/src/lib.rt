@@ -1,0 +1,11 @@
+//! Readers of the declarations of blocks and of blocks of declarations (Haskell 2010 Report, section 4.4). Each is given the
+//! readers of operands and of such blocks.
+#![tactic(auto)]
+
+mod blocks;
+mod declarations;
+mod leaf;
+
+pub use blocks::{DeclItems, read_decl_block};
+pub use declarations::{read_binding, read_decl};
+pub use leaf::begins_place;
