@@ -1,3 +1,4 @@
 pub mod DeclStartLemmas
 pub mod DeclBlockLemmas
 pub mod ListingLemmas
+pub mod BindingLemmas
