@@ -34,7 +34,8 @@ use Rattle.hs_expression_forms.proofs.TreesLemmas.{embeds_took, embeds_failed}
 use Rattle.hs_block_forms.specs.Combined.{Heads, Places, PlaceCase, is_none, is_some}
 use Rattle.hs_block_forms.specs.Blocks.{ends_item, is_left_brace, is_semicolon}
 use Rattle.hs_block_forms.proofs.CombinedLemmas.{headed_chain, on_not}
-use Rattle.hs_binding_forms.specs.Bindings.{decls, decl_slots, decl_items, fills_place}
+use Rattle.hs_declaration_forms.specs.Typings.{fills_place}
+use Rattle.hs_binding_forms.specs.Bindings.{decls, decl_slots, decl_items}
 use Rattle.hs_binding_forms.proofs.DeclStartLemmas.{decl_first}
 
 -- places

@@ -18,7 +18,7 @@ use Rattle.hs_modules.specs.declared.expressions.FunLhsTree.{roll-out-FunLhsTree
 use Rattle.hs_modules.proofs.FoldingLemmas.{DeclTrees, decl_folded}
 use Rattle.hs_headers.specs.Names.{is_import_word}
 use Rattle.hs_declaration_forms.specs.Datatypes.{starts_type_decl}
-use Rattle.hs_binding_forms.specs.Bindings.{fills_place}
+use Rattle.hs_declaration_forms.specs.Typings.{fills_place}
 
 -- what the first token of a declaration is not: what declares a type, what ends an item, an import
 pub record Starts (ts : Ts) : Type 0 where

@@ -40,10 +40,6 @@ decl_slots = record {
 abbrev pub decl_items : Trees Terminal (DeclSlot × List DeclSlot)
 decl_items = headed (behind_token t.LeftBrace decl_slots) (behind_token t.Semicolon decl_slots) is_semicolon None
 
--- the tokens that stand at a place that is not empty
-abbrev pub fills_place : Terminal → Bool
-fills_place k = not (ends_item k)
-
 -- those that bind something
 abbrev pub bindings : Trees Terminal DeclTree
 bindings = record {

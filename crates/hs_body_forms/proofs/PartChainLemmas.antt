@@ -24,9 +24,9 @@ use Rattle.hs_body_forms.specs.declared.parts.TopPart.{TopPart}
 use Rattle.hs_body_forms.specs.declared.parts.TopPart.TheVariants as p
 use Rattle.hs_body_forms.specs.Bodies.{parts, part_lists, PartList, part_tokens, is_part, part_depth, part_goes}
 use Rattle.hs_body_forms.specs.Bodies.{takes_rest, shut, decl_runs}
-use Rattle.hs_signature_forms.proofs.SigDeclLemmas.{busy}
+use Rattle.hs_declaration_forms.specs.Typings.{fills_place}
 
-semicolon_idle : (k : Terminal) → is_semicolon k ≡ true → busy k ≡ false
+semicolon_idle : (k : Terminal) → is_semicolon k ≡ true → fills_place k ≡ false
 semicolon_idle t.Semicolon h = refl
 semicolon_idle _ h = absurd (true≢false (sym h))
 

@@ -33,7 +33,8 @@ use Rattle.hs_body_forms.specs.declared.parts.TopPart.{TopPart}
 use Rattle.hs_body_forms.specs.declared.parts.TopPart.TheVariants as p
 use Rattle.hs_body_forms.specs.Bodies.{top_decls, later_slots, decl_runs, parts, part_tokens, is_part}
 use Rattle.hs_signature_forms.specs.Signatures.{imports}
-use Rattle.hs_signature_forms.proofs.SigDeclLemmas.{busy, import_flat}
+use Rattle.hs_declaration_forms.specs.Typings.{fills_place}
+use Rattle.hs_signature_forms.proofs.SigDeclLemmas.{import_flat}
 use Rattle.hs_signature_forms.proofs.PartLemmas.{Blank}
 use Rattle.hs_body_forms.proofs.TopDeclLemmas.{top_decl_busy, decl_no_import}
 
@@ -42,7 +43,7 @@ pub slot_blank : Blank later_slots v.Empty
 slot_blank = record { tokens = refl; formed = refl; deep = refl; others = others }
   where
     others : (x : TopSlot) → later_slots.formed x ≡ true →
-        (x ≡ v.Empty) ⊎ ((after : Ts) → begins busy (top_slot_tokens x ++ after) ≡ true)
+        (x ≡ v.Empty) ⊎ ((after : Ts) → begins fills_place (top_slot_tokens x ++ after) ≡ true)
     others v.Empty g = inl refl
     others (v.Import i) g = inr (λ after. refl)
     others (v.Decl d) g = inr (λ after. top_decl_busy d after (and_left (is_top_decl d) true g))
@@ -50,7 +51,7 @@ slot_blank = record { tokens = refl; formed = refl; deep = refl; others = others
 abbrev pub make_slot : TopDeclTree → TopSlot
 make_slot d = v.Decl d
 
-pub slot_joins : Joins later_slots top_decls make_slot (begins busy)
+pub slot_joins : Joins later_slots top_decls make_slot (begins fills_place)
 slot_joins = record {
   tokens = λ d. refl;
   formed = λ d g. and_from (is_top_decl d) true g refl;
@@ -60,14 +61,14 @@ slot_joins = record {
   only = only;
 }
   where
-    only : (x : TopSlot) (after : Ts) → later_slots.formed x ≡ true → begins busy after ≡ false →
-        begins busy (top_slot_tokens x ++ after) ≡ true →
+    only : (x : TopSlot) (after : Ts) → later_slots.formed x ≡ true → begins fills_place after ≡ false →
+        begins fills_place (top_slot_tokens x ++ after) ≡ true →
         (d : TopDeclTree) × (x ≡ make_slot d) × (is_top_decl d ≡ true)
     only v.Empty after g q e = absurd (true≢false (sym e ∙ q))
     only (v.Import i) after g q e = absurd (true≢false (sym (and_right (is_import_list i.list) false g)))
     only (v.Decl d) after g q e = (d, refl, and_left (is_top_decl d) true g)
 
-semicolon_idle : (k : Terminal) → is_semicolon k ≡ true → busy k ≡ false
+semicolon_idle : (k : Terminal) → is_semicolon k ≡ true → fills_place k ≡ false
 semicolon_idle t.Semicolon h = refl
 semicolon_idle _ h = absurd (true≢false (sym h))
 
@@ -91,29 +92,29 @@ module _ (limit : Option ℕ) (k : Terminal) (here : Ts) where
       Took (behind_token k later_slots) limit (k ∷ here) (make_slot d) rest m
   slot_took d rest m acc =
       behind_took later_slots limit k (k ∷ here) here (make_slot d) rest m refl
-      (joined_took later_slots top_decls make_slot (begins busy) slot_joins limit here d rest m acc)
+      (joined_took later_slots top_decls make_slot (begins fills_place) slot_joins limit here d rest m acc)
 
-  pub slot_failed : begins busy here ≡ true → (e : Fault) → Failed top_decls limit here e →
+  pub slot_failed : begins fills_place here ≡ true → (e : Fault) → Failed top_decls limit here e →
       Failed (behind_token k later_slots) limit (k ∷ here) e
   slot_failed on e r =
       behind_failed later_slots limit k (k ∷ here) here e refl
-      (joined_failed later_slots top_decls make_slot (begins busy) slot_joins limit here e (stays_first busy here on) r)
+      (joined_failed later_slots top_decls make_slot (begins fills_place) slot_joins limit here e (stays_first fills_place here on) r)
 
 -- parts
 run_busy : (d : TopDeclTree) (ss : List TopSlot) (after : Ts) → decl_runs.formed (d, ss) ≡ true →
-    begins busy (decl_runs.tokens (d, ss) ++ after) ≡ true
+    begins fills_place (decl_runs.tokens (d, ss) ++ after) ≡ true
 run_busy d ss after g =
-    begins_append busy (decl_runs.tokens (d, ss)) after (begins_append busy (top_decl_tokens d) _ (first d
+    begins_append fills_place (decl_runs.tokens (d, ss)) after (begins_append fills_place (top_decl_tokens d) _ (first d
     (and_left (is_top_decl d) _ g)))
   where
-    first : (d : TopDeclTree) → is_top_decl d ≡ true → begins busy (top_decl_tokens d) ≡ true
-    first d g = ap (begins busy) (sym (append-nil (top_decl_tokens d))) ∙ top_decl_busy d [] g
+    first : (d : TopDeclTree) → is_top_decl d ≡ true → begins fills_place (top_decl_tokens d) ≡ true
+    first d g = ap (begins fills_place) (sym (append-nil (top_decl_tokens d))) ∙ top_decl_busy d [] g
 
 pub part_blank : Blank parts p.Empty
 part_blank = record { tokens = refl; formed = refl; deep = refl; others = others }
   where
     others : (x : TopPart) → is_part x ≡ true →
-        (x ≡ p.Empty) ⊎ ((after : Ts) → begins busy (part_tokens x ++ after) ≡ true)
+        (x ≡ p.Empty) ⊎ ((after : Ts) → begins fills_place (part_tokens x ++ after) ≡ true)
     others p.Empty g = inl refl
     others (p.Import i) g = inr (λ after. refl)
     others (p.Decls d ss) g = inr (λ after. run_busy d ss after g)
@@ -121,7 +122,7 @@ part_blank = record { tokens = refl; formed = refl; deep = refl; others = others
 abbrev pub make_import : ImpDeclTree → TopPart
 make_import x = p.Import x
 
-import_ends : (k : Terminal) → busy k ≡ false → goes_on k ≡ false
+import_ends : (k : Terminal) → fills_place k ≡ false → goes_on k ≡ false
 import_ends t.Semicolon h = refl
 import_ends t.RightBrace h = refl
 import_ends _ h = absurd (true≢false h)
@@ -136,7 +137,7 @@ import_joins = record {
   only = only;
 }
   where
-    quiet_import : (after : Ts) → begins busy after ≡ false → begins is_import_word after ≡ false
+    quiet_import : (after : Ts) → begins fills_place after ≡ false → begins is_import_word after ≡ false
     quiet_import [] q = refl
     quiet_import (t.Semicolon ∷ after) q = refl
     quiet_import (t.RightBrace ∷ after) q = refl
@@ -153,7 +154,7 @@ import_joins = record {
 
 -- something else than an import stands there
 abbrev pub other_part : Terminal → Bool
-other_part k = busy k && not (is_import_word k)
+other_part k = fills_place k && not (is_import_word k)
 
 abbrev pub make_run : Run → TopPart
 make_run x = p.Decls x.0 x.1
@@ -170,11 +171,11 @@ run_joins = record {
   only = only;
 }
   where
-    other : (ts : Ts) → begins busy ts ≡ true → begins is_import_word ts ≡ false → begins other_part ts ≡ true
+    other : (ts : Ts) → begins fills_place ts ≡ true → begins is_import_word ts ≡ false → begins other_part ts ≡ true
     other [] h e = h
-    other (k ∷ ts) h e = and_from (busy k) (not (is_import_word k)) h (ap not e)
+    other (k ∷ ts) h e = and_from (fills_place k) (not (is_import_word k)) h (ap not e)
 
-    idle : (after : Ts) → begins busy after ≡ false → begins other_part after ≡ false
+    idle : (after : Ts) → begins fills_place after ≡ false → begins other_part after ≡ false
     idle [] q = refl
     idle (k ∷ after) q = ap (λ b. b && not (is_import_word k)) q
 
@@ -206,13 +207,13 @@ module _ (limit : Option ℕ) (k : Terminal) (here : Ts) where
       behind_took parts limit k (k ∷ here) here (make_run x) rest m refl
       (joined_took parts decl_runs make_run (begins other_part) run_joins limit here x rest m acc)
 
-  pub run_failed : begins busy here ≡ true → begins is_import_word here ≡ false → (e : Fault) →
+  pub run_failed : begins fills_place here ≡ true → begins is_import_word here ≡ false → (e : Fault) →
       Failed decl_runs limit here e → Failed (behind_token k parts) limit (k ∷ here) e
   run_failed on off e r =
       behind_failed parts limit k (k ∷ here) here e refl
       (joined_failed parts decl_runs make_run (begins other_part) run_joins limit here e
       (stays_first other_part here (other here on off)) r)
     where
-      other : (ts : Ts) → begins busy ts ≡ true → begins is_import_word ts ≡ false → begins other_part ts ≡ true
+      other : (ts : Ts) → begins fills_place ts ≡ true → begins is_import_word ts ≡ false → begins other_part ts ≡ true
       other [] h e = h
-      other (k ∷ ts) h e = and_from (busy k) (not (is_import_word k)) h (ap not e)
+      other (k ∷ ts) h e = and_from (fills_place k) (not (is_import_word k)) h (ap not e)

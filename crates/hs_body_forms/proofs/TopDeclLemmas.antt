@@ -36,7 +36,7 @@ use Rattle.hs_expression_forms.proofs.TreesLemmas.{stays_first}
 use Rattle.hs_declaration_forms.specs.Datatypes.{type_decls, declares_type, starts_type_decl}
 use Rattle.hs_declaration_forms.proofs.MadeLemmas.{begins_none, stays_off}
 use Rattle.hs_declaration_forms.proofs.MergeLemmas.{Joins, joined_took, joined_failed}
-use Rattle.hs_signature_forms.proofs.SigDeclLemmas.{busy}
+use Rattle.hs_declaration_forms.specs.Typings.{fills_place}
 use Rattle.hs_binding_forms.specs.Bindings.{decls}
 use Rattle.hs_binding_forms.proofs.DeclStartLemmas.{decl_first}
 use Rattle.hs_body_forms.specs.Bodies.{top_decls}
@@ -95,7 +95,7 @@ decls_join = record {
 
 -- no top declaration begins with what ends one, nor with an import
 pub top_decl_busy : (x : TopDeclTree) (after : Ts) → is_top_decl x ≡ true →
-    begins busy (top_decl_tokens x ++ after) ≡ true
+    begins fills_place (top_decl_tokens x ++ after) ≡ true
 top_decl_busy (v.EmptyData n ps) after g = refl
 top_decl_busy (v.Data n ps c cs) after g = refl
 top_decl_busy (v.Newtype n ps c a) after g = refl

@@ -112,3 +112,7 @@ plain_decls = record {
   deep = λ x. (extent_of_decl x).depth;
   extends = λ x k. not (ends_item k);
 }
+
+-- the tokens that stand at a place of a block that is not empty
+abbrev pub fills_place : Terminal → Bool
+fills_place k = not (ends_item k)

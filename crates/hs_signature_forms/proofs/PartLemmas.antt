@@ -32,7 +32,8 @@ use Rattle.hs_declaration_forms.proofs.MergeLemmas.{Joins, joined_took, joined_f
 use Rattle.hs_signature_forms.specs.declared.parts.SigPart.{SigPart}
 use Rattle.hs_signature_forms.specs.declared.parts.SigPart.TheVariants as p
 use Rattle.hs_signature_forms.specs.Signatures.{sig_decls, imports, later_slots, decl_runs, parts, part_tokens, is_part}
-use Rattle.hs_signature_forms.proofs.SigDeclLemmas.{busy, sig_decl_busy, decl_no_import, import_flat}
+use Rattle.hs_declaration_forms.specs.Typings.{fills_place}
+use Rattle.hs_signature_forms.proofs.SigDeclLemmas.{sig_decl_busy, decl_no_import, import_flat}
 
 -- Trees of which one has no tokens, and each other begins with a token that ends no item.
 pub record Blank {T : Type 0} (a : Trees Terminal T) (blank : T) : Type 0 where
@@ -40,10 +41,10 @@ pub record Blank {T : Type 0} (a : Trees Terminal T) (blank : T) : Type 0 where
   pub formed : a.formed blank ≡ true
   pub deep : a.deep blank ≡ 0
   pub others : (x : T) → a.formed x ≡ true →
-      (x ≡ blank) ⊎ ((after : Ts) → begins busy (a.tokens x ++ after) ≡ true)
+      (x ≡ blank) ⊎ ((after : Ts) → begins fills_place (a.tokens x ++ after) ≡ true)
 
 module _ {T : Type 0} (a : Trees Terminal T) (blank : T) (b : Blank a blank) (limit : Option ℕ) where
-  blank_reads : (here : Ts) → begins busy here ≡ false → Reads (within a limit) blank here
+  blank_reads : (here : Ts) → begins fills_place here ≡ false → Reads (within a limit) blank here
   blank_reads here off = record {
     good = (b.formed, subst (Within limit) (sym b.deep) (within_zero limit));
     only = λ s other after same good quiet e.
@@ -51,15 +52,15 @@ module _ {T : Type 0} (a : Trees Terminal T) (blank : T) (b : Blank a blank) (li
   }
     where
       by : (s : Ts) (other : T) (after : Ts) → SameStart here s → s ≡ a.tokens other ++ after →
-          (other ≡ blank) ⊎ ((after : Ts) → begins busy (a.tokens other ++ after) ≡ true) →
+          (other ≡ blank) ⊎ ((after : Ts) → begins fills_place (a.tokens other ++ after) ≡ true) →
           (other ≡ blank) × (after ≡ s)
       by s other after same e (inl is) =
           (is, sym (e ∙ ap (λ y. a.tokens y ++ after) is ∙ ap (λ l. l ++ after) b.tokens))
       by s other after same e (inr f) =
-          absurd (true≢false (sym (f after) ∙ ap (begins busy) (sym e) ∙ begins_same busy here s same ∙ off))
+          absurd (true≢false (sym (f after) ∙ ap (begins fills_place) (sym e) ∙ begins_same fills_place here s same ∙ off))
 
   -- nothing stands between the token before and what ends an item
-  pub blank_took : (k : Terminal) (here : Ts) → begins busy here ≡ false →
+  pub blank_took : (k : Terminal) (here : Ts) → begins fills_place here ≡ false →
       Took (behind_token k a) limit (k ∷ here) blank here 0
   blank_took k here off = record {
     spelled = ap (λ l. k ∷ (l ++ here)) (sym b.tokens);
@@ -73,7 +74,7 @@ pub slot_blank : Blank later_slots v.Empty
 slot_blank = record { tokens = refl; formed = refl; deep = refl; others = others }
   where
     others : (x : SigSlot) → later_slots.formed x ≡ true →
-        (x ≡ v.Empty) ⊎ ((after : Ts) → begins busy (sig_slot_tokens x ++ after) ≡ true)
+        (x ≡ v.Empty) ⊎ ((after : Ts) → begins fills_place (sig_slot_tokens x ++ after) ≡ true)
     others v.Empty g = inl refl
     others (v.Import i) g = inr (λ after. refl)
     others (v.Decl d) g = inr (λ after. sig_decl_busy d after (and_left (is_sig_decl d) true g))
@@ -81,7 +82,7 @@ slot_blank = record { tokens = refl; formed = refl; deep = refl; others = others
 abbrev pub make_slot : SigDeclTree → SigSlot
 make_slot d = v.Decl d
 
-pub slot_joins : Joins later_slots sig_decls make_slot (begins busy)
+pub slot_joins : Joins later_slots sig_decls make_slot (begins fills_place)
 slot_joins = record {
   tokens = λ d. refl;
   formed = λ d g. and_from (is_sig_decl d) true g refl;
@@ -91,14 +92,14 @@ slot_joins = record {
   only = only;
 }
   where
-    only : (x : SigSlot) (after : Ts) → later_slots.formed x ≡ true → begins busy after ≡ false →
-        begins busy (sig_slot_tokens x ++ after) ≡ true →
+    only : (x : SigSlot) (after : Ts) → later_slots.formed x ≡ true → begins fills_place after ≡ false →
+        begins fills_place (sig_slot_tokens x ++ after) ≡ true →
         (d : SigDeclTree) × (x ≡ make_slot d) × (is_sig_decl d ≡ true)
     only v.Empty after g q e = absurd (true≢false (sym e ∙ q))
     only (v.Import i) after g q e = absurd (true≢false (sym (and_right (is_import_list i.list) false g)))
     only (v.Decl d) after g q e = (d, refl, and_left (is_sig_decl d) true g)
 
-semicolon_idle : (k : Terminal) → is_semicolon k ≡ true → busy k ≡ false
+semicolon_idle : (k : Terminal) → is_semicolon k ≡ true → fills_place k ≡ false
 semicolon_idle t.Semicolon h = refl
 semicolon_idle _ h = absurd (true≢false (sym h))
 
@@ -122,29 +123,29 @@ module _ (limit : Option ℕ) (k : Terminal) (here : Ts) where
       Took (behind_token k later_slots) limit (k ∷ here) (make_slot d) rest m
   slot_took d rest m acc =
       behind_took later_slots limit k (k ∷ here) here (make_slot d) rest m refl
-      (joined_took later_slots sig_decls make_slot (begins busy) slot_joins limit here d rest m acc)
+      (joined_took later_slots sig_decls make_slot (begins fills_place) slot_joins limit here d rest m acc)
 
-  pub slot_failed : begins busy here ≡ true → (e : Fault) → Failed sig_decls limit here e →
+  pub slot_failed : begins fills_place here ≡ true → (e : Fault) → Failed sig_decls limit here e →
       Failed (behind_token k later_slots) limit (k ∷ here) e
   slot_failed on e r =
       behind_failed later_slots limit k (k ∷ here) here e refl
-      (joined_failed later_slots sig_decls make_slot (begins busy) slot_joins limit here e (stays_first busy here on) r)
+      (joined_failed later_slots sig_decls make_slot (begins fills_place) slot_joins limit here e (stays_first fills_place here on) r)
 
 -- parts
 run_busy : (d : SigDeclTree) (ss : List SigSlot) (after : Ts) → decl_runs.formed (d, ss) ≡ true →
-    begins busy (decl_runs.tokens (d, ss) ++ after) ≡ true
+    begins fills_place (decl_runs.tokens (d, ss) ++ after) ≡ true
 run_busy d ss after g =
-    begins_append busy (decl_runs.tokens (d, ss)) after (begins_append busy (sig_decl_tokens d) _ (first d
+    begins_append fills_place (decl_runs.tokens (d, ss)) after (begins_append fills_place (sig_decl_tokens d) _ (first d
     (and_left (is_sig_decl d) _ g)))
   where
-    first : (d : SigDeclTree) → is_sig_decl d ≡ true → begins busy (sig_decl_tokens d) ≡ true
-    first d g = ap (begins busy) (sym (append-nil (sig_decl_tokens d))) ∙ sig_decl_busy d [] g
+    first : (d : SigDeclTree) → is_sig_decl d ≡ true → begins fills_place (sig_decl_tokens d) ≡ true
+    first d g = ap (begins fills_place) (sym (append-nil (sig_decl_tokens d))) ∙ sig_decl_busy d [] g
 
 pub part_blank : Blank parts p.Empty
 part_blank = record { tokens = refl; formed = refl; deep = refl; others = others }
   where
     others : (x : SigPart) → is_part x ≡ true →
-        (x ≡ p.Empty) ⊎ ((after : Ts) → begins busy (part_tokens x ++ after) ≡ true)
+        (x ≡ p.Empty) ⊎ ((after : Ts) → begins fills_place (part_tokens x ++ after) ≡ true)
     others p.Empty g = inl refl
     others (p.Import i) g = inr (λ after. refl)
     others (p.Decls d ss) g = inr (λ after. run_busy d ss after g)
@@ -152,7 +153,7 @@ part_blank = record { tokens = refl; formed = refl; deep = refl; others = others
 abbrev pub make_import : ImpDeclTree → SigPart
 make_import x = p.Import x
 
-import_ends : (k : Terminal) → busy k ≡ false → goes_on k ≡ false
+import_ends : (k : Terminal) → fills_place k ≡ false → goes_on k ≡ false
 import_ends t.Semicolon h = refl
 import_ends t.RightBrace h = refl
 import_ends _ h = absurd (true≢false h)
@@ -167,7 +168,7 @@ import_joins = record {
   only = only;
 }
   where
-    quiet_import : (after : Ts) → begins busy after ≡ false → begins is_import_word after ≡ false
+    quiet_import : (after : Ts) → begins fills_place after ≡ false → begins is_import_word after ≡ false
     quiet_import [] q = refl
     quiet_import (t.Semicolon ∷ after) q = refl
     quiet_import (t.RightBrace ∷ after) q = refl
@@ -184,7 +185,7 @@ import_joins = record {
 
 -- something else than an import stands there
 abbrev pub other_part : Terminal → Bool
-other_part k = busy k && not (is_import_word k)
+other_part k = fills_place k && not (is_import_word k)
 
 abbrev pub make_run : Run → SigPart
 make_run x = p.Decls x.0 x.1
@@ -201,11 +202,11 @@ run_joins = record {
   only = only;
 }
   where
-    other : (ts : Ts) → begins busy ts ≡ true → begins is_import_word ts ≡ false → begins other_part ts ≡ true
+    other : (ts : Ts) → begins fills_place ts ≡ true → begins is_import_word ts ≡ false → begins other_part ts ≡ true
     other [] h e = h
-    other (k ∷ ts) h e = and_from (busy k) (not (is_import_word k)) h (ap not e)
+    other (k ∷ ts) h e = and_from (fills_place k) (not (is_import_word k)) h (ap not e)
 
-    idle : (after : Ts) → begins busy after ≡ false → begins other_part after ≡ false
+    idle : (after : Ts) → begins fills_place after ≡ false → begins other_part after ≡ false
     idle [] q = refl
     idle (k ∷ after) q = ap (λ b. b && not (is_import_word k)) q
 
@@ -237,13 +238,13 @@ module _ (limit : Option ℕ) (k : Terminal) (here : Ts) where
       behind_took parts limit k (k ∷ here) here (make_run x) rest m refl
       (joined_took parts decl_runs make_run (begins other_part) run_joins limit here x rest m acc)
 
-  pub run_failed : begins busy here ≡ true → begins is_import_word here ≡ false → (e : Fault) →
+  pub run_failed : begins fills_place here ≡ true → begins is_import_word here ≡ false → (e : Fault) →
       Failed decl_runs limit here e → Failed (behind_token k parts) limit (k ∷ here) e
   run_failed on off e r =
       behind_failed parts limit k (k ∷ here) here e refl
       (joined_failed parts decl_runs make_run (begins other_part) run_joins limit here e
       (stays_first other_part here (other here on off)) r)
     where
-      other : (ts : Ts) → begins busy ts ≡ true → begins is_import_word ts ≡ false → begins other_part ts ≡ true
+      other : (ts : Ts) → begins fills_place ts ≡ true → begins is_import_word ts ≡ false → begins other_part ts ≡ true
       other [] h e = h
-      other (k ∷ ts) h e = and_from (busy k) (not (is_import_word k)) h (ap not e)
+      other (k ∷ ts) h e = and_from (fills_place k) (not (is_import_word k)) h (ap not e)

@@ -47,7 +47,7 @@ use Rattle.hs_declarations.specs.declared.kinded.Kinded.{Kinded}
 use Rattle.hs_expression_forms.specs.Trees.{Took, Failed, within}
 use Rattle.hs_expression_forms.proofs.TreesLemmas.{stays_first}
 use Rattle.hs_block_forms.specs.Blocks.{ends_item}
-use Rattle.hs_declaration_forms.specs.Typings.{plain_decls, typings, fixities}
+use Rattle.hs_declaration_forms.specs.Typings.{plain_decls, typings, fixities, fills_place}
 use Rattle.hs_declaration_forms.specs.Datatypes.{type_decls, declares_type, starts_type_decl}
 use Rattle.hs_declaration_forms.proofs.FlatLemmas.{Flat}
 use Rattle.hs_declaration_forms.proofs.MadeLemmas.{begins_none, stays_off}
@@ -56,9 +56,6 @@ use Rattle.hs_declaration_forms.proofs.DeclLayerLemmas.{fixity_spelled, OpParts}
 use Rattle.hs_declaration_forms.proofs.MergeLemmas.{Joins, Merges, Apart, Side, of_one, of_two, merged_one}
 use Rattle.hs_declaration_forms.proofs.MergeLemmas.{merged_two, merged_fails, joined_took, joined_failed, stands_behind}
 use Rattle.hs_signature_forms.specs.Signatures.{kinded_trees, sig_types, is_sig_type, sig_decls, imports}
-
-abbrev pub busy : Terminal → Bool
-busy k = not (ends_item k)
 
 -- imports have no depth
 subs_deep : (n : List ℕ) (x : SubsTree) → (extent_of_item (i.TypeWith n x)).depth ≡ 0
@@ -98,7 +95,7 @@ make_kinded x = s.Kinded x.name x.kind
 abbrev pub make_top : TopDeclTree → SigDeclTree
 make_top x = s.Top x
 
-no_arrow : (k : Terminal) → busy k ≡ false → is_arrow k ≡ false
+no_arrow : (k : Terminal) → fills_place k ≡ false → is_arrow k ≡ false
 no_arrow t.Semicolon h = refl
 no_arrow t.RightBrace h = refl
 no_arrow _ h = absurd (true≢false h)
@@ -141,7 +138,7 @@ kinded_apart x rest r y after same good quiet e = by y good e
         kinded_trees.tokens x ++ r ≡ top_decl_tokens y ++ after → ⊥
     by (v.EmptyData n []) g e =
         let at : t.DoubleColon ∷ (spelling_kind x.kind ++ r) ≡ after = cc in
-        true≢false (ap (begins busy) at ∙ quiet)
+        true≢false (ap (begins fills_place) at ∙ quiet)
     by (v.EmptyData n (q ∷ qs)) g e = absurd cc
     by (v.Data n [] c cs) g e = absurd cc
     by (v.Data n (q ∷ qs) c cs) g e = absurd cc
@@ -170,7 +167,7 @@ abbrev as_it_is : SigDeclTree → SigDeclTree
 as_it_is x = x
 
 plain_first : (d : DeclTree) (after : Ts) → plain_decls.formed d ≡ true →
-    (begins starts_type_decl (spelling_decl d ++ after) ≡ false) × (begins busy (spelling_decl d ++ after) ≡ true)
+    (begins starts_type_decl (spelling_decl d ++ after) ≡ false) × (begins fills_place (spelling_decl d ++ after) ≡ true)
     × (begins is_import_word (spelling_decl d ++ after) ≡ false)
 plain_first d after g = by (decl_case d)
   where
@@ -178,33 +175,33 @@ plain_first d after g = by (decl_case d)
     regrouped a b c d e = simp append_assoc
 
     var_first : (x : VarTree) (more : Ts) →
-        (begins starts_type_decl (var_tokens x ++ more) ≡ false) × (begins busy (var_tokens x ++ more) ≡ true)
+        (begins starts_type_decl (var_tokens x ++ more) ≡ false) × (begins fills_place (var_tokens x ++ more) ≡ true)
         × (begins is_import_word (var_tokens x ++ more) ≡ false)
     var_first (va.Id m) more = (refl, refl, refl)
     var_first (va.Sym m) more = (refl, refl, refl)
 
     word_first : (w : Fixity) (l : Option (List ℕ)) (p : OpParts) →
         (begins starts_type_decl (fixities.tokens ((w, l), p) ++ after) ≡ false)
-        × (begins busy (fixities.tokens ((w, l), p) ++ after) ≡ true)
+        × (begins fills_place (fixities.tokens ((w, l), p) ++ after) ≡ true)
         × (begins is_import_word (fixities.tokens ((w, l), p) ++ after) ≡ false)
     word_first f.Left l p = (refl, refl, refl)
     word_first f.Right l p = (refl, refl, refl)
     word_first f.Neither l p = (refl, refl, refl)
 
     by : DeclCase d →
-        (begins starts_type_decl (spelling_decl d ++ after) ≡ false) × (begins busy (spelling_decl d ++ after) ≡ true)
+        (begins starts_type_decl (spelling_decl d ++ after) ≡ false) × (begins fills_place (spelling_decl d ++ after) ≡ true)
         × (begins is_import_word (spelling_decl d ++ after) ≡ false)
     by (is_typing p is) =
         let e : spelling_decl d ++ after ≡ typings.tokens p ++ after =
         ap (λ y. spelling_decl y ++ after) is ∙ ap (λ l. l ++ after) (typing_spelled p) in
         let e' = e ∙ regrouped (var_tokens p.0.0) _ (t.DoubleColon ∷ []) (spelling_type p.1) after in
         let both = var_first p.0.0 _ in
-        (ap (begins starts_type_decl) e' ∙ both.0, ap (begins busy) e' ∙ both.1, ap (begins is_import_word) e' ∙ both.2)
+        (ap (begins starts_type_decl) e' ∙ both.0, ap (begins fills_place) e' ∙ both.1, ap (begins is_import_word) e' ∙ both.2)
     by (is_fixity p is) =
         let e : spelling_decl d ++ after ≡ fixities.tokens p ++ after =
         ap (λ y. spelling_decl y ++ after) is ∙ ap (λ l. l ++ after) (fixity_spelled p) in
         let both = word_first p.0.0 p.0.1 p.1 in
-        (ap (begins starts_type_decl) e ∙ both.0, ap (begins busy) e ∙ both.1, ap (begins is_import_word) e ∙ both.2)
+        (ap (begins starts_type_decl) e ∙ both.0, ap (begins fills_place) e ∙ both.1, ap (begins is_import_word) e ∙ both.2)
     by (binds free) = absurd (true≢false (sym (and_right (facts_of_decl d).good _ g) ∙ free))
 
 pub types_join : Joins sig_decls sig_types as_it_is (begins starts_type_decl)
@@ -260,7 +257,7 @@ plain_join = record {
 
 -- no declaration begins with what ends one
 pub sig_decl_busy : (x : SigDeclTree) (after : Ts) → is_sig_decl x ≡ true →
-    begins busy (sig_decl_tokens x ++ after) ≡ true
+    begins fills_place (sig_decl_tokens x ++ after) ≡ true
 sig_decl_busy (s.Kinded n k) after g = refl
 sig_decl_busy (s.Top (v.EmptyData n ps)) after g = refl
 sig_decl_busy (s.Top (v.Data n ps c cs)) after g = refl
@@ -297,13 +294,13 @@ module _ (limit : Option ℕ) (ts : Ts) where
       merged_fails kinded_trees type_decls sig_types make_kinded make_top type_merges limit ts l n r q
 
   -- `::` stands behind what is declared otherwise
-  colon_busy : (rest next : Ts) → rest ≡ t.DoubleColon ∷ next → begins busy rest ≡ true
-  colon_busy rest next at = ap (begins busy) at
+  colon_busy : (rest next : Ts) → rest ≡ t.DoubleColon ∷ next → begins fills_place rest ≡ true
+  colon_busy rest next at = ap (begins fills_place) at
 
   pub declared_goes : (x : TopDeclTree) (rest : Ts) (m : ℕ) → Took type_decls limit ts x rest m → (next : Ts) →
       rest ≡ t.DoubleColon ∷ next → Rejects (within type_decls limit) ts (length rest)
   declared_goes x rest m acc next at =
-      stands_behind type_decls busy (λ x k. refl) limit ts x rest m acc (colon_busy rest next at)
+      stands_behind type_decls fills_place (λ x k. refl) limit ts x rest m acc (colon_busy rest next at)
 
   pub decl_type_took : (x : SigDeclTree) (rest : Ts) (m : ℕ) → Took sig_types limit ts x rest m →
       Took sig_decls limit ts x rest m

@@ -4,7 +4,6 @@ ghost use Rattle.hs_forms.specs.Reading.{begins};
 ghost use Rattle.hs_tokens.specs.declared.terminal.Terminal.TheVariants as t;
 ghost use Rattle.hs_headers.specs.Names.{is_import_word};
 ghost use Rattle.hs_block_forms.specs.Blocks.{is_left_brace, is_right_brace, is_semicolon};
-ghost use Rattle.hs_signature_forms.proofs.SigDeclLemmas.{busy};
 
 use hs_headers::after_import;
 use hs_tokens::Terminal;
@@ -34,16 +33,6 @@ pub fn begins_semicolon(tokens: &[Terminal]) -> bool
     ensures { result ≡ begins is_semicolon tokens.now }
 {
     matches!(tokens.first(), Some(Terminal::Semicolon))
-}
-
-/// Whether a token stands here that ends no place of a block.
-pub fn begins_place(tokens: &[Terminal]) -> bool
-    ensures { result ≡ begins busy tokens.now }
-{
-    match tokens.first() {
-        None | Some(Terminal::Semicolon | Terminal::RightBrace) => false,
-        _ => true,
-    }
 }
 
 /// Whether `import` stands here.

@@ -11,13 +11,14 @@ ghost use Rattle.hs_signature_forms.specs.Signatures.{decl_runs, later_slots, pa
 ghost use Rattle.hs_signature_forms.proofs.PartLemmas.{run_chain};
 
 use crate::declarations::read_sig_decl;
-use crate::leaf::{begins_import, begins_place, begins_semicolon};
+use crate::leaf::{begins_import, begins_semicolon};
 use hs_forms::Fault;
 use hs_headers::read_import;
 use hs_modules::{SigDeclTree, SigSlot};
 use hs_readers::{Chained, Read, after, read_chain};
 use hs_signature_forms::SigPart;
 use hs_tokens::Terminal;
+use hs_typings::begins_place;
 use sqlite_items::Items;
 use std::alloc::Global;
 

@@ -4,7 +4,7 @@ ghost use Rattle.hs_forms.specs.Reading.{begins};
 ghost use Rattle.hs_tokens.specs.declared.terminal.Terminal.TheVariants as t;
 ghost use Rattle.hs_modules.specs.Tokens.{fixity_word};
 ghost use Rattle.hs_modules.specs.Formed.{is_level};
-ghost use Rattle.hs_declaration_forms.specs.Typings.{is_digit, starts_fixity, starts_op};
+ghost use Rattle.hs_declaration_forms.specs.Typings.{fills_place, is_digit, starts_fixity, starts_op};
 
 use bp_base::Bytes;
 use hs_headers::begins_with_colon;
@@ -58,5 +58,15 @@ pub fn begins_op(tokens: &[Terminal]) -> bool
         Some(Terminal::VarSym(_) | Terminal::Backquote) => true,
         Some(Terminal::ConSym(name)) => begins_with_colon(name.as_bytes()),
         _ => false,
+    }
+}
+
+/// Whether a token stands here that ends no place of a block.
+pub fn begins_place(tokens: &[Terminal]) -> bool
+    ensures { result ≡ begins fills_place tokens.now }
+{
+    match tokens.first() {
+        None | Some(Terminal::Semicolon | Terminal::RightBrace) => false,
+        _ => true,
     }
 }

@@ -10,6 +10,6 @@ mod variables;
 
 pub use declarations::read_plain_decl;
 pub use fixities::{FixityTerms, read_fixity};
-pub use leaf::{begins_fixity, begins_op};
+pub use leaf::{begins_fixity, begins_op, begins_place};
 pub use operators::read_op;
 pub use variables::{Typing, VarList, read_typing, read_vars};
