@@ -10,4 +10,4 @@ mod reading;
 pub use parse_kinds::{one_kind, parse_kind};
 pub use parse_pats::{no_bind, one_pat, parse_pat};
 pub use parse_types::{one_type, parse_type};
-pub use reading::{Readable, one_tree, parse};
+pub use reading::{Readable, Unambiguous, one_tree, parse};

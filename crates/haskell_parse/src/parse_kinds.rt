@@ -8,7 +8,7 @@ ghost use Rattle.hs_trees.specs.declared.types.KindTree.{KindTree};
 ghost use Rattle.hs_trees.proofs.KindUniqueLemmas.{one_kind};
 ghost use Rattle.hs_readers.specs.Answers.{Answers};
 
-use crate::reading::{Readable, parse};
+use crate::reading::{Readable, Unambiguous, parse};
 use hs_forms::{Fault, ParseError};
 use hs_readers::{Read, read_kind};
 use hs_tokens::{Terminal, Tokens};
@@ -27,7 +27,9 @@ impl Readable for KindTree {
     {
         read_kind(alloc, tokens, limit)
     }
+}
 
+impl Unambiguous for KindTree {
     ghost unique = { one_kind };
 }
 

@@ -11,7 +11,7 @@ ghost use Rattle.hs_trees.specs.declared.patterns.PatTree.{PatTree};
 ghost use Rattle.hs_trees.proofs.PatternUniqueLemmas.{one_pattern};
 ghost use Rattle.hs_readers.specs.Answers.{Answers};
 
-use crate::reading::{Readable, parse};
+use crate::reading::{Readable, Unambiguous, parse};
 use hs_forms::{Fault, ParseError};
 use hs_readers::{Read, read_pat};
 use hs_tokens::{Terminal, Tokens};
@@ -30,7 +30,9 @@ impl Readable for PatTree {
     {
         read_pat(alloc, tokens, limit)
     }
+}
 
+impl Unambiguous for PatTree {
     ghost unique = { one_pattern };
 }
 

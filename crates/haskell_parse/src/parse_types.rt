@@ -8,7 +8,7 @@ ghost use Rattle.hs_trees.specs.declared.types.TypeTree.{TypeTree};
 ghost use Rattle.hs_trees.proofs.TypeUniqueLemmas.{one_type};
 ghost use Rattle.hs_readers.specs.Answers.{Answers};
 
-use crate::reading::{Readable, parse};
+use crate::reading::{Readable, Unambiguous, parse};
 use hs_forms::{Fault, ParseError};
 use hs_readers::{Read, read_type};
 use hs_tokens::{Terminal, Tokens};
@@ -27,7 +27,9 @@ impl Readable for TypeTree {
     {
         read_type(alloc, tokens, limit)
     }
+}
 
+impl Unambiguous for TypeTree {
     ghost unique = { one_type };
 }
 

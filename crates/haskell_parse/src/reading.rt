@@ -22,8 +22,11 @@ pub trait Readable: Sized {
         limit: Option<usize>,
     ) -> Result<Read<'a, Self>, Fault>
         ensures { Answers (sort limit) tokens.now result };
+}
 
-    ghost unique: { (tokens : List Terminal) (one other : Self) → Spells (sort None).form one tokens → Spells (sort None).form other tokens → other ≡ one };
+/// A tree of which no two have one spelling.
+pub trait Unambiguous: Readable {
+    ghost unique: { (tokens : List Terminal) (one other : Self) → Spells (Self.sort None).form one tokens → Spells (Self.sort None).form other tokens → other ≡ one };
 }
 
 /// The tree that all the terminals spell, within the limit.
@@ -82,6 +85,6 @@ pub fn parse<T: Readable + Drop>(alloc: Global, tokens: &Tokens) -> Result<T, Pa
 }
 
 /// No two trees have one spelling, whatever their depth.
-pub fn one_tree<T: Readable>()
+pub fn one_tree<T: Unambiguous>()
     ensures { (tokens : List Terminal) (one other : T) → Spells (T.sort None).form one tokens → Spells (T.sort None).form other tokens → other ≡ one }
 {}
