@@ -16,6 +16,8 @@ use hs_trees::KindTree;
 use std::alloc::Global;
 
 impl Readable for KindTree {
+    type Tree = KindTree;
+
     ghost sort = { kind_sort };
 
     fn read<'a>(
@@ -40,7 +42,7 @@ impl Unambiguous for KindTree {
 pub fn parse_kind(alloc: Global, tokens: &Tokens) -> Result<KindTree, ParseError>
     ensures answer { IsAnswer (kind_form (Some 200)) (kind_form None) (map terminal_of tokens.now) result }
 {
-    parse(alloc, tokens)
+    parse::<KindTree>(alloc, tokens)
 }
 
 /// No two kinds have one spelling, whatever their depth.

@@ -19,6 +19,8 @@ use hs_trees::PatTree;
 use std::alloc::Global;
 
 impl Readable for PatTree {
+    type Tree = PatTree;
+
     ghost sort = { pat_sort };
 
     fn read<'a>(
@@ -43,7 +45,7 @@ impl Unambiguous for PatTree {
 pub fn parse_pat(alloc: Global, tokens: &Tokens) -> Result<PatTree, ParseError>
     ensures answer { IsAnswer (pat_form (Some 200)) (pat_form None) (map terminal_of tokens.now) result }
 {
-    parse(alloc, tokens)
+    parse::<PatTree>(alloc, tokens)
 }
 
 /// No two patterns have one spelling, whatever their depth.

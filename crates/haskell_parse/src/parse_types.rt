@@ -16,6 +16,8 @@ use hs_trees::TypeTree;
 use std::alloc::Global;
 
 impl Readable for TypeTree {
+    type Tree = TypeTree;
+
     ghost sort = { type_sort };
 
     fn read<'a>(
@@ -40,7 +42,7 @@ impl Unambiguous for TypeTree {
 pub fn parse_type(alloc: Global, tokens: &Tokens) -> Result<TypeTree, ParseError>
     ensures answer { IsAnswer (type_form (Some 200)) (type_form None) (map terminal_of tokens.now) result }
 {
-    parse(alloc, tokens)
+    parse::<TypeTree>(alloc, tokens)
 }
 
 /// No two types have one spelling, whatever their depth.

@@ -12,29 +12,31 @@ use hs_readers::{MAX_DEPTH, Read};
 use hs_tokens::{Terminal, Tokens, terminals_of};
 use std::alloc::Global;
 
-/// A tree that has a reader.
+/// A production that has a reader: the tree's own type, or an empty type where one type of trees has several.
 pub trait Readable: Sized {
-    ghost sort: { Option ℕ → Sort Terminal Self };
+    type Tree: Drop;
+
+    ghost sort: { Option ℕ → Sort Terminal Self.Tree };
 
     fn read<'a>(
         alloc: Global,
         tokens: &'a [Terminal],
         limit: Option<usize>,
-    ) -> Result<Read<'a, Self>, Fault>
+    ) -> Result<Read<'a, Self::Tree>, Fault>
         ensures { Answers (sort limit) tokens.now result };
 }
 
-/// A tree of which no two have one spelling.
+/// A production of whose trees no two have one spelling.
 pub trait Unambiguous: Readable {
-    ghost unique: { (tokens : List Terminal) (one other : Self) → Spells (Self.sort None).form one tokens → Spells (Self.sort None).form other tokens → other ≡ one };
+    ghost unique: { (tokens : List Terminal) (one other : Self.Tree) → Spells (Self.sort None).form one tokens → Spells (Self.sort None).form other tokens → other ≡ one };
 }
 
 /// The tree that all the terminals spell, within the limit.
-fn whole<T: Readable + Drop>(
+fn whole<T: Readable>(
     alloc: Global,
     tokens: &[Terminal],
     limit: Option<usize>,
-) -> Result<T, Fault>
+) -> Result<T::Tree, Fault>
     ensures { IsWhole (T.sort limit).form tokens.now result }
 {
     let read = T::read(alloc, tokens, limit)?;
@@ -46,7 +48,7 @@ fn whole<T: Readable + Drop>(
 }
 
 /// Whether the terminals begin a tree, of any depth.
-fn begins<T: Readable + Drop>(alloc: Global, tokens: &[Terminal]) -> Result<bool, ParseError>
+fn begins<T: Readable>(alloc: Global, tokens: &[Terminal]) -> Result<bool, ParseError>
     ensures { MatchResult result (λ begun. IsTrue begun ↔ Begins (T.sort None).form tokens.now) (λ e. e ≡ NoMemory) }
 {
     match whole::<T>(alloc, tokens, None) {
@@ -57,7 +59,7 @@ fn begins<T: Readable + Drop>(alloc: Global, tokens: &[Terminal]) -> Result<bool
 }
 
 /// `parse`, of terminals.
-fn of_terminals<T: Readable + Drop>(alloc: Global, tokens: &[Terminal]) -> Result<T, ParseError>
+fn of_terminals<T: Readable>(alloc: Global, tokens: &[Terminal]) -> Result<T::Tree, ParseError>
     ensures { IsAnswer (T.sort (Some 200)).form (T.sort None).form tokens.now result }
 {
     let left = match whole::<T>(alloc, tokens, Some(MAX_DEPTH)) {
@@ -77,14 +79,14 @@ fn of_terminals<T: Readable + Drop>(alloc: Global, tokens: &[Terminal]) -> Resul
 ///
 /// A refusal has the index of the first token with which the tokens begin no tree of a depth up to 200, or their number
 /// where each of them can stand there and more are needed. It is `DepthLimit` where they begin a deeper tree.
-pub fn parse<T: Readable + Drop>(alloc: Global, tokens: &Tokens) -> Result<T, ParseError>
+pub fn parse<T: Readable>(alloc: Global, tokens: &Tokens) -> Result<T::Tree, ParseError>
     ensures { IsAnswer (T.sort (Some 200)).form (T.sort None).form (map terminal_of tokens.now) result }
 {
     let terminals = terminals_of(alloc, tokens)?;
-    of_terminals(alloc, terminals.as_slice())
+    of_terminals::<T>(alloc, terminals.as_slice())
 }
 
 /// No two trees have one spelling, whatever their depth.
 pub fn one_tree<T: Unambiguous>()
-    ensures { (tokens : List Terminal) (one other : T) → Spells (T.sort None).form one tokens → Spells (T.sort None).form other tokens → other ≡ one }
+    ensures { (tokens : List Terminal) (one other : T.Tree) → Spells (T.sort None).form one tokens → Spells (T.sort None).form other tokens → other ≡ one }
 {}

@@ -1,6 +1,5 @@
-//! Blocks of declarations (Haskell 2010 Report, sections 3.12 and 4.4.3), of operands and blocks that readers are given
-//! for.
-ghost use Rattle.std.specs.Prelude.{◌↔◌, IsTrue, max, map, ◌≡◌, ◌∷◌, ◌<◌, ◌≤◌, ◌+◌, ◌^◌, ℕ, Option, List, IfOk, length, true};
+//! Blocks of declarations (Haskell 2010 Report, sections 3.12 and 4.4.3), of operands and blocks that readers are given for.
+ghost use Rattle.std.specs.Prelude.{◌↔◌, IsTrue, max, map, ◌≡◌, ◌∷◌, ◌<◌, ◌≤◌, ◌+◌, ◌^◌, ℕ, Option, IfOk, length, true};
 ghost use Rattle.hs_forms.specs.Reading.{begins};
 ghost use Rattle.hs_forms.specs.Limits.{deepest};
 ghost use Rattle.hs_tokens.specs.declared.terminal.Terminal.{Terminal};
@@ -12,12 +11,12 @@ ghost use Rattle.hs_binding_forms.specs.Bindings.{decl_items, decl_slots};
 ghost use Rattle.hs_binding_forms.proofs.DeclBlockLemmas.{decl_chain, from_block};
 
 use crate::declarations::read_decl;
-use crate::leaf::begins_place;
 use hs_blocks::{after_left_brace, after_right_brace, begins_semicolon};
 use hs_forms::Fault;
 use hs_modules::{DeclBlock, DeclSlot, OperandTree};
 use hs_readers::{Chained, Read, after, read_chain};
 use hs_tokens::Terminal;
+use hs_typings::begins_place;
 use sqlite_items::{Boxed, Items};
 use std::alloc::{AllocError, Global};
 
@@ -73,27 +72,49 @@ fn read_decl_slot<
     operand: &F,
     block: &D,
 ) -> Result<Read<'a, DeclSlot>, Fault>
-    requires some { 0 < length tokens.now }
     requires may { (here : _) (l : _) → length here.now < length tokens.now → F.pre operand.now here l }
     requires says { (here : _) (l : _) (r : _) → F.post operand.now here l r → Answers (sort_of operands l) here.now r }
     requires may_decls { (here : _) (l : _) → length here.now < length tokens.now → D.pre block.now here l }
     requires says_decls { (here : _) (l : _) (r : _) → D.post block.now here l r → Answers (sort_of decl_blocks l) here.now r }
-    ensures { (k : Terminal) (next : List Terminal) → tokens.now ≡ k ∷ next → Answers (sort_of (behind_token k decl_slots) limit) tokens.now result }
+    ensures { (before : Terminal) → Answers (sort_of (behind_token before decl_slots) limit) (before ∷ tokens.now) result }
 {
-    let next = after(tokens, 1);
-    if !begins_place(next) {
+    if !begins_place(tokens) {
         return Ok(Read {
             tree: DeclSlot::NoDecl,
-            rest: next,
+            rest: tokens,
             depth: 0,
         });
     }
-    let decl = read_decl(alloc, next, limit, operand, block)?;
+    let decl = read_decl(alloc, tokens, limit, operand, block)?;
     Ok(Read {
         tree: DeclSlot::Decl(decl.tree),
         rest: decl.rest,
         depth: decl.depth,
     })
+}
+
+/// A declaration or none, with the `;` before it.
+fn read_more<
+    'a,
+    F: Fn(&[Terminal], Option<usize>) -> Result<Read<'_, OperandTree>, Fault>,
+    D: Fn(&[Terminal], Option<usize>) -> Result<Read<'_, DeclBlock>, Fault>,
+>(
+    alloc: Global,
+    tokens: &'a [Terminal],
+    limit: Option<usize>,
+    count: usize,
+    operand: &F,
+    block: &D,
+) -> Result<Read<'a, DeclSlot>, Fault>
+    requires starts { begins is_semicolon tokens.now ≡ true }
+    requires may { (here : _) (l : _) → length here.now < length tokens.now → F.pre operand.now here l }
+    requires says { (here : _) (l : _) (r : _) → F.post operand.now here l r → Answers (sort_of operands l) here.now r }
+    requires may_decls { (here : _) (l : _) → length here.now < length tokens.now → D.pre block.now here l }
+    requires says_decls { (here : _) (l : _) (r : _) → D.post block.now here l r → Answers (sort_of decl_blocks l) here.now r }
+    ensures { Answers (item_sort (decl_chain limit) count) tokens.now result }
+{
+    let _ = &count;
+    read_decl_slot(alloc, after(tokens, 1), limit, operand, block)
 }
 
 /// What stands between the braces of a block of declarations, at its `{`.
@@ -114,10 +135,10 @@ fn read_decl_items<
     requires says_decls { (here : _) (l : _) (r : _) → D.post block.now here l r → Answers (sort_of decl_blocks l) here.now r }
     ensures { Answers (sort_of decl_items limit) tokens.now result }
 {
-    if after_left_brace(tokens).is_none() {
+    let Some(next) = after_left_brace(tokens) else {
         return Err(Fault::At(tokens.len()));
-    }
-    let head = read_decl_slot(alloc, tokens, limit, operand, block)?;
+    };
+    let head = read_decl_slot(alloc, next, limit, operand, block)?;
     read_chain::<DeclItems, _>(
         alloc,
         tokens,
@@ -133,20 +154,16 @@ fn read_decl_items<
             ensures { Answers (item_sort (decl_chain limit) count) here.now result }
         {
             let _ = &tokens;
-            let _ = &count;
-            read_decl_slot(alloc, here, limit, operand, block)
+            read_more(alloc, here, limit, count, operand, block)
         },
     )
 }
 
-/// The block of these places.
-fn block_of(
-    alloc: Global,
-    places: (DeclSlot, Items<DeclSlot>),
-) -> Result<DeclBlock, AllocError>
-    ensures { IfOk result (λ block. block ≡ from_block places) }
+/// The block of these declarations.
+fn block_of(alloc: Global, items: (DeclSlot, Items<DeclSlot>)) -> Result<DeclBlock, AllocError>
+    ensures { IfOk result (λ block. block ≡ from_block items) }
 {
-    let (first, rest) = places;
+    let (first, rest) = items;
     let first = Boxed::new(alloc, first)?;
     Ok(DeclBlock { first, rest })
 }
@@ -173,7 +190,10 @@ pub fn read_decl_block<
     let Some(rest) = after_right_brace(items.rest) else {
         return Err(Fault::At(items.rest.len()));
     };
-    let depth = items.depth;
     let tree = block_of(alloc, items.tree)?;
-    Ok(Read { tree, rest, depth })
+    Ok(Read {
+        tree,
+        rest,
+        depth: items.depth,
+    })
 }

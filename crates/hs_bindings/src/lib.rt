@@ -4,8 +4,6 @@
 
 mod blocks;
 mod declarations;
-mod leaf;
 
 pub use blocks::{DeclItems, read_decl_block};
 pub use declarations::{read_binding, read_decl};
-pub use leaf::begins_place;
