@@ -145,6 +145,13 @@ pub fn after_import(tokens: &[Terminal]) -> Option<&[Terminal]>
     }
 }
 
+/// Whether `import` stands here.
+pub fn begins_import(tokens: &[Terminal]) -> bool
+    ensures { result ≡ begins is_import_word tokens.now }
+{
+    after_import(tokens).is_some()
+}
+
 /// What stands after `where`.
 pub fn after_where(tokens: &[Terminal]) -> Option<&[Terminal]>
     ensures { MatchOption result (begins is_where_word tokens.now ≡ false) (λ rest. tokens.now ≡ t.Word Where ∷ rest.now) }

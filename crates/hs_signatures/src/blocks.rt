@@ -11,9 +11,9 @@ ghost use Rattle.hs_signature_forms.specs.Signatures.{part_lists, parts, sig_blo
 ghost use Rattle.hs_expression_forms.specs.Expressions.{last_part};
 ghost use Rattle.hs_signature_forms.proofs.PartChainLemmas.{part_chain};
 
-use crate::leaf::{after_left_brace, after_right_brace, begins_semicolon};
 use crate::parts::read_sig_part;
 use crate::slots::flatten;
+use hs_block_forms::{after_left_brace, after_right_brace, begins_semicolon};
 use hs_forms::Fault;
 use hs_modules::SigBlock;
 use hs_readers::{Chained, Read, after, read_chain};

@@ -4,7 +4,6 @@
 
 mod blocks;
 mod declarations;
-mod leaf;
 mod parts;
 mod signature;
 mod slots;

@@ -11,9 +11,9 @@ ghost use Rattle.hs_signature_forms.specs.Signatures.{decl_runs, later_slots, pa
 ghost use Rattle.hs_signature_forms.proofs.PartLemmas.{run_chain};
 
 use crate::declarations::read_sig_decl;
-use crate::leaf::{begins_import, begins_semicolon};
+use hs_block_forms::begins_semicolon;
 use hs_forms::Fault;
-use hs_headers::read_import;
+use hs_headers::{begins_import, read_import};
 use hs_modules::{SigDeclTree, SigSlot};
 use hs_readers::{Chained, Read, after, read_chain};
 use hs_signature_forms::SigPart;

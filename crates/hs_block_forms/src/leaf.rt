@@ -1,11 +1,9 @@
-//! Looks at the next terminals.
+//! Looks at the terminals about the places of a block.
 ghost use Rattle.std.specs.Prelude.{◌≡◌, ◌∷◌, MatchOption, false};
 ghost use Rattle.hs_forms.specs.Reading.{begins};
 ghost use Rattle.hs_tokens.specs.declared.terminal.Terminal.TheVariants as t;
-ghost use Rattle.hs_headers.specs.Names.{is_import_word};
 ghost use Rattle.hs_block_forms.specs.Blocks.{is_left_brace, is_right_brace, is_semicolon};
 
-use hs_headers::after_import;
 use hs_tokens::Terminal;
 
 /// What stands after a `{`.
@@ -33,11 +31,4 @@ pub fn begins_semicolon(tokens: &[Terminal]) -> bool
     ensures { result ≡ begins is_semicolon tokens.now }
 {
     matches!(tokens.first(), Some(Terminal::Semicolon))
-}
-
-/// Whether `import` stands here.
-pub fn begins_import(tokens: &[Terminal]) -> bool
-    ensures { result ≡ begins is_import_word tokens.now }
-{
-    after_import(tokens).is_some()
 }
