@@ -4,3 +4,4 @@ pub mod BlockLayerLemmas
 pub mod ItemLayerLemmas
 pub mod GuardLemmas
 pub mod BodyLemmas
+pub mod TokenLemmas

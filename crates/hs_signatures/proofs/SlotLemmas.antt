@@ -1,10 +1,6 @@
 -- Loops over the parts of a block.
-use Rattle.std.proofs.Common.{◌≡◌, true, List, [], ◌∷◌, ◌++◌, refl, sym, ap, ◌∙◌, append_assoc, drop, true≢false}
+use Rattle.std.proofs.Common.{◌≡◌, List, [], ◌∷◌, ◌++◌, sym, ap, ◌∙◌, append_assoc}
 use Rattle.std.specs.Prelude.{flat_map, reverse}
-use Rattle.hs_forms.specs.Reading.{begins}
-use Rattle.hs_tokens.specs.declared.terminal.Terminal.TheVariants as t
-use Rattle.hs_trees.specs.Patterns.{Ts}
-use Rattle.hs_block_forms.specs.Blocks.{is_semicolon}
 use Rattle.std.proofs.lemmas.List.{reverse-append}
 use Rattle.hs_modules.specs.declared.declarations.SigSlot.{SigSlot}
 use Rattle.hs_signature_forms.specs.declared.parts.SigPart.{SigPart}
@@ -26,9 +22,3 @@ added_more all slots more back next x e at is =
     ∙ ap (λ l. slots ++ flat_map slots_of l) (reverse-append next (x ∷ []))
     ∙ sym (append_assoc slots (slots_of x) (flat_map slots_of (reverse next)))
     ∙ ap (λ l. l ++ flat_map slots_of (reverse next)) (sym is)
-
--- the semicolon that stands here
-pub semicolon_led : (ts : Ts) → begins is_semicolon ts ≡ true → ts ≡ t.Semicolon ∷ drop 1 ts
-semicolon_led [] h = absurd (true≢false (sym h))
-semicolon_led (t.Semicolon ∷ ts) h = refl
-semicolon_led (_ ∷ ts) h = absurd (true≢false (sym h))
