@@ -90,12 +90,13 @@ gcon_read (g.Sym n) is rest = (sym_ok None n (t.ConSym n ∷ t.RightParen ∷ re
     (t.RightParen ∷ rest) rest refl refl).reads
 gcon_read g.Colon is rest = (colon_ok None (t.Colon ∷ t.RightParen ∷ rest) (t.RightParen ∷ rest) rest refl refl).reads
 
-abbrev Upto : ℕ → Type 0
+-- the `apat`s of at most so many tokens are read, whatever stands behind them but `@`
+abbrev pub Upto : ℕ → Type 0
 Upto n = (x : APatTree) → length (spelling_apat x) ≤ n → is_apat x ≡ true → (rest : Ts) → begins is_at rest ≡ false
     → Reads (apat_form None) x rest
 
 module _ (n : ℕ) (below : Upto n) where
-  apats_all : (p : APats) → length (spelling_apats p) ≤ n → are_apats p ≡ true → (rest : Ts)
+  pub apats_all : (p : APats) → length (spelling_apats p) ≤ n → are_apats p ≡ true → (rest : Ts)
       → begins (λ k. starts_apat k || is_at k) rest ≡ false →
       Reads (apats_form None) p rest
   apats_all p short is rest q =
@@ -135,7 +136,7 @@ module _ (n : ℕ) (below : Upto n) where
       (λ c e. begins_within (λ k. starts_apat k || is_at k) starts_apat rest
       (λ k e. or_left (starts_apat k) (is_at k) e) q))
 
-  lpat_all : (x : LPatTree) → length (spelling_lpat x) ≤ n → is_lpat x ≡ true → (rest : Ts) →
+  pub lpat_all : (x : LPatTree) → length (spelling_lpat x) ≤ n → is_lpat x ≡ true → (rest : Ts) →
       begins (λ k. starts_apat k || is_at k) rest ≡ false → Reads (lpat_form None) x rest
   lpat_all x =
       subst (λ y. length (spelling_lpat y) ≤ n → is_lpat y ≡ true → (rest : Ts)
@@ -243,7 +244,7 @@ module _ (n : ℕ) (below : Upto n) where
       (lead_reads (apat_form None) (t.Tilde ∷ []) (apat_form None) a.Lazy (lazy_leads None tt) x rest
       (below x len (sym (lazy_is x) ∙ ap is_apat (sym (a.rolls-Lazy x)) ∙ is) rest q))
 
-upto : (n : ℕ) → Upto n
+pub upto : (n : ℕ) → Upto n
 upto zero = λ x short is rest q. absurd (let some = begins_length starts_apat (spelling_apat x) (apat_starts x) in
     omega arith)
 upto (suc n) =
