@@ -229,7 +229,7 @@ brackets_no_lpat x none s l r is e = by (lpat_cases l _ r is e)
         brackets_no_apat x none s (a.Con c) (spelling_apats ps ++ r) (con_is c ∙ and_left (is_gcon c) _ good) at
     by (of_alone y same good at) = brackets_no_apat x none s y r good at
 
-wrapped_split : (f : WrappedParts) (s : Ts) → wrapped.tokens f ++ s ≡ t.LeftParen ∷
+pub wrapped_split : (f : WrappedParts) (s : Ts) → wrapped.tokens f ++ s ≡ t.LeftParen ∷
     (spelling_fun_lhs f.0 ++ t.RightParen ∷ (spelling_apats f.1 ++ s))
 wrapped_split f s = simp append_assoc
 
