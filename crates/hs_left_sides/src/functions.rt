@@ -11,9 +11,7 @@ use crate::operators::read_varop;
 use hs_forms::Fault;
 use hs_headers::read_var;
 use hs_modules::{FunLhsTree, VarOpTree};
-use hs_readers::{
-    Read, after_left_paren, after_right_paren, allows, lower, read_apats, read_lpat,
-};
+use hs_readers::{Read, after_left_paren, after_right_paren, allows, lower, read_apats, read_lpat};
 use hs_tokens::Terminal;
 use hs_trees::{APatTree, LPatTree, VarTree};
 use sqlite_items::{Boxed, Items};
