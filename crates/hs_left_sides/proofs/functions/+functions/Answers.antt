@@ -1,5 +1,5 @@
 -- Each return is a lemma of `FunctionLemmas`.
-use Rattle.std.proofs.Common.{◌∷◌, ◌∙◌, sym, true≢false}
+use Rattle.std.proofs.Common.{◌∷◌, ◌∙◌, sym, true≢false, arith}
 use Rattle.std.proofs.lemmas.Result.{err_from_is_err_and}
 use Rattle.hs_tokens.specs.declared.terminal.Terminal.TheVariants.{LeftParen}
 use Rattle.hs_left_forms.proofs.FunctionLemmas.{function_prefix, function_infix, function_bracketed, no_bracket, no_room}
@@ -22,13 +22,21 @@ read_last-returns-then-not-allows t c =
     no_room c.args.limit c.args.tokens.now c.args.left
     (λ w. true≢false (sym (c.allows.ensures.1 w) ∙ c.if-not-allows.true)) c.requires
 
-pub read_last-returns-in-Ok : goal.read_last-returns-in-Ok
-read_last-returns-in-Ok t c = _
+pub read_unnamed-read_last-requires : goal.read_unnamed-read_last-requires
+read_unnamed-read_last-requires t c =
+    let r = rw c.in-Err-At.field-0-is at c.in-Err-At.ensures in
+    (omega arith, rw c.min.ensures (bare_fails c.args.limit c.args.tokens.now c.args.left _ c.requires r))
+
+pub read_last-returns-in_ok-inner-in-Ok : goal.read_last-returns-in_ok-inner-in-Ok
+read_last-returns-in_ok-inner-in-Ok t c =
+    rw c.in_ok-inner-in-Ok.ensures (function_bracketed c.args.limit c.args.tokens.now _ c.in-Some.ensures _ _ _
+    c.in-Ok.ensures)
 
 pub read_last-returns-in-Err-At : goal.read_last-returns-in-Err-At
 read_last-returns-in-Err-At t c =
     let r = rw c.in-Err-At.field-0-is at c.in-Err-At.ensures in
-    rw c.min.ensures (brackets_fail c.args.limit c.args.tokens.now _ c.in-Some.ensures c.args.left _ c.requires r)
+    rw (c.min.ensures, c.in-Err-At.field-0-is) (brackets_fail c.args.limit c.args.tokens.now _ c.in-Some.ensures
+    c.args.left _ c.requires r)
 
 pub read_wrapped-returns-in_err-inner : goal.read_wrapped-returns-in_err-inner
 read_wrapped-returns-in_err-inner t c =
