@@ -1,0 +1,6 @@
+pub mod LayerLemmas
+pub mod ApartLemmas
+pub mod VarOpLemmas
+pub mod FunctionLemmas
+pub mod LeftSideLemmas
+pub mod UniqueLemmas
