@@ -11,7 +11,7 @@ ghost use Rattle.hs_binding_forms.specs.Bindings.{decl_items, decl_slots};
 ghost use Rattle.hs_binding_forms.proofs.DeclBlockLemmas.{decl_chain, from_block};
 
 use crate::declarations::read_decl;
-use hs_blocks::{after_left_brace, after_right_brace, begins_semicolon};
+use hs_block_forms::{after_left_brace, after_right_brace, begins_semicolon};
 use hs_forms::Fault;
 use hs_modules::{DeclBlock, DeclSlot, OperandTree};
 use hs_readers::{Chained, Read, after, read_chain};

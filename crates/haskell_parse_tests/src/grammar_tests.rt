@@ -1,0 +1,303 @@
+use bp_base::Bytes;
+use haskell_parse::{parse_exp, parse_items, parse_module, parse_signature};
+use hs_forms::ParseError;
+use hs_tokens::{Token, TokenKind, Tokens};
+use sqlite_items::Items;
+use std::alloc::{AllocError, Global};
+use std::test::Fail;
+
+fn is_reserved(word: &[u8]) -> bool {
+    match word {
+        b"type" | b"data" | b"newtype" | b"module" | b"where" | b"import" => true,
+        b"let" | b"in" | b"if" | b"then" | b"else" | b"case" | b"of" => true,
+        b"infixl" | b"infixr" | b"infix" | b"=" | b"->" | b"<-" | b"::" | b":" | b"|" => true,
+        b"\\" | b"@" | b"~" | b"_" => true,
+        _ => false,
+    }
+}
+
+fn kind_of(word: &[u8]) -> TokenKind {
+    if is_reserved(word) {
+        return TokenKind::Reserved;
+    }
+    match word {
+        b"(" | b")" | b"," | b"[" | b"]" | b"{" | b"}" | b";" | b"`" => TokenKind::Special,
+        b"M.x" => TokenKind::Var,
+        b"M.+" => TokenKind::VarSym,
+        b"M.:+" => TokenKind::ConSym,
+        [b'A'..=b'Z', ..] => TokenKind::Con,
+        [b'a'..=b'z', ..] => TokenKind::Var,
+        [b'0'..=b'9', ..] => TokenKind::Integer,
+        [b'\'', ..] => TokenKind::Char,
+        [b'"', ..] => TokenKind::Text,
+        [b':', ..] => TokenKind::ConSym,
+        _ => TokenKind::VarSym,
+    }
+}
+
+fn push_words(alloc: Global, all: &mut Tokens, text: &str) -> Result<(), AllocError> {
+    for word in text.split_ascii_whitespace() {
+        let word = word.as_bytes();
+        all.push(Token {
+            kind: kind_of(word),
+            text: Bytes::from_bytes(alloc, word)?,
+            offset: 0,
+            column: 0,
+            first: false,
+        })?;
+    }
+    Ok(())
+}
+
+/// The words of `front` so many times, those of `middle`, and those of `back` as often.
+fn nested(
+    alloc: Global,
+    times: usize,
+    front: &str,
+    middle: &str,
+    back: &str,
+) -> Result<Tokens, AllocError> {
+    let mut all = Items::new(alloc);
+    for _ in 0..times {
+        push_words(alloc, &mut all, front)?;
+    }
+    push_words(alloc, &mut all, middle)?;
+    for _ in 0..times {
+        push_words(alloc, &mut all, back)?;
+    }
+    Ok(all)
+}
+
+/// Which production is asked for.
+#[derive(Clone, Copy)]
+enum Part {
+    Exp,
+    Module,
+    Signature,
+    Items,
+}
+
+fn spelled<T: Drop>(
+    alloc: Global,
+    parsed: Result<T, ParseError>,
+) -> Result<String, AllocError> {
+    match parsed {
+        Ok(_) => format!(in alloc; "tree"),
+        Err(ParseError::Syntax { index }) => format!(in alloc; "syntax {index}"),
+        Err(ParseError::DepthLimit { index }) => format!(in alloc; "deep {index}"),
+        Err(ParseError::NoMemory) => format!(in alloc; "memory"),
+    }
+}
+
+fn answer_for(alloc: Global, part: Part, tokens: &Tokens) -> Result<String, AllocError> {
+    match part {
+        Part::Exp => spelled(alloc, parse_exp(alloc, tokens)),
+        Part::Module => spelled(alloc, parse_module(alloc, tokens)),
+        Part::Signature => spelled(alloc, parse_signature(alloc, tokens)),
+        Part::Items => spelled(alloc, parse_items(alloc, tokens)),
+    }
+}
+
+/// The first row that is not right, with the answer that was found: a row is an answer and the words that have it.
+fn wrong_row(alloc: Global, part: Part, rows: &str) -> Result<String, AllocError> {
+    for row in rows.lines() {
+        let (want, text) = row.split_once('|').unwrap_or(("", ""));
+        let tokens = nested(alloc, 0, "", text, "")?;
+        let found = answer_for(alloc, part, &tokens)?;
+        if found.as_str() != want {
+            let found = found.as_str();
+            return format!(in alloc; "{row}: {found}");
+        }
+    }
+    format!(in alloc; "")
+}
+
+#[test]
+fn expressions(rt: HostRuntime) -> Result<(), Fail> {
+    let alloc = rt.alloc();
+    let rows = "\
+tree|x
+tree|f x y
+tree|M.x
+tree|1
+tree|'c' \"s\"
+tree|( )
+tree|( , , )
+tree|( + )
+tree|( :+ )
+tree|( : )
+tree|[ ]
+tree|[ x , y ]
+tree|( x , y )
+tree|( x )
+tree|- x
+tree|( - x )
+tree|x - - y
+tree|x + - y
+tree|x + y * z
+tree|x ` f ` y
+tree|x ` M.x ` y
+tree|( x + )
+tree|( + x )
+tree|( x - )
+tree|( x + y + )
+tree|( ` f ` x )
+tree|( x ` f ` )
+tree|x :: T
+tree|x :: T -> U
+tree|( x :: T )
+tree|[ x :: T , y ]
+tree|\\ x -> y
+tree|\\ x y -> x y :: T
+tree|\\ ( x , y ) -> x
+tree|x + \\ y -> z
+tree|f ( \\ y -> z )
+tree|if x then y else z
+tree|if x then y else z + w :: T
+tree|let { } in x
+tree|let { x = y ; f z = w ; ; } in x
+tree|let { x :: T ; infixl 6 + } in x
+tree|let { x + y = z ; ( f x ) y = z ; ( x , y ) = z } in x
+tree|let { x | y , z <- w = v | otherwise = u where { v = x } } in x
+tree|case x of { }
+tree|case x of { y -> z }
+tree|case x of { ; C y -> z ; [ ] -> w ; }
+tree|case x of { y | z -> w | ( C v ) <- u , t -> s where { } }
+tree|case x of { - 1 -> y }
+tree|case x of { y -> z } + w
+tree|f x ( case x of { } )
+syntax 0|
+syntax 1|f )
+syntax 1|(
+syntax 1|x =
+syntax 2|x +
+syntax 2|x + )
+syntax 2|x + * y
+syntax 1|- + y
+syntax 2|( x
+syntax 3|( x ,
+syntax 3|( x , )
+syntax 3|( x + , y )
+syntax 4|( + x ,
+syntax 2|( - )
+syntax 2|[ x
+syntax 3|[ x , ]
+syntax 2|x ` f
+syntax 2|x ` T.
+syntax 1|\\ -> y
+syntax 2|\\ x
+syntax 3|\\ x ->
+syntax 2|if x
+syntax 4|if x then y
+syntax 4|if x then y ; else z
+syntax 1|let x
+syntax 4|let { x } in y
+syntax 6|let { x = y }
+syntax 6|let { x = y } of
+syntax 3|case x of
+syntax 4|case x of {
+syntax 5|case x of { y }
+syntax 6|case x of { y -> }
+syntax 9|case x of { y | z :: T -> w }
+syntax 2|x ::
+syntax 3|x :: T + y
+syntax 2|f \\ x -> y
+";
+    let wrong = wrong_row(alloc, Part::Exp, rows)?;
+    assert_eq!(rt; wrong.as_str(), "");
+    Ok(())
+}
+
+#[test]
+fn modules(rt: HostRuntime) -> Result<(), Fail> {
+    let alloc = rt.alloc();
+    let rows = "\
+tree|{ }
+tree|{ x = y }
+tree|{ ; x = y ; }
+tree|module M where { }
+tree|module M ( x , T ( .. ) , module N , ) where { import N ; x = y }
+tree|{ import M ; ; import N ; data T = C a | D ; newtype U = E T ; type V = T ; x :: T ; x = C y ; f x = y ; infixr 5 ++ }
+tree|{ x ++ y = z ; ( ++ ) x y = z ; x ` f ` y = z ; ( x + y ) z = w ; ( x ) = y ; x @ y = z ; - 1 = x }
+tree|{ f ( x : xs ) [ y ] ~ z _ = x where { x = y } }
+syntax 0|
+syntax 0|signature S where { }
+syntax 1|{ =
+syntax 1|{ = }
+syntax 2|{ x }
+syntax 2|{ x ; }
+syntax 3|{ x = }
+syntax 5|{ x = y import M }
+syntax 5|{ x = y ; import M }
+syntax 3|{ f x }
+syntax 4|{ f x , y :: T }
+syntax 2|{ C }
+syntax 2|{ T :: U }
+syntax 5|{ x = y ) }
+syntax 2|module M { }
+syntax 4|module M where {
+syntax 5|module M where { } }
+syntax 5|{ x = y } z
+";
+    let wrong = wrong_row(alloc, Part::Module, rows)?;
+    assert_eq!(rt; wrong.as_str(), "");
+    Ok(())
+}
+
+#[test]
+fn modules_and_signatures(rt: HostRuntime) -> Result<(), Fail> {
+    let alloc = rt.alloc();
+    let rows = "\
+tree|{ }
+tree|{ x = y }
+tree|signature S where { x :: T }
+syntax 1|{ = }
+syntax 6|signature S where { x = y }
+syntax 0|where
+";
+    let wrong = wrong_row(alloc, Part::Items, rows)?;
+    assert_eq!(rt; wrong.as_str(), "");
+    let rows = "\
+tree|signature S where { }
+syntax 0|module M where { }
+syntax 0|{ }
+syntax 1|signature
+";
+    let wrong = wrong_row(alloc, Part::Signature, rows)?;
+    assert_eq!(rt; wrong.as_str(), "");
+    Ok(())
+}
+
+#[test]
+fn as_deep_as_may_be(rt: HostRuntime) -> Result<(), Fail> {
+    let alloc = rt.alloc();
+    let rows = "\
+( |)
+[ |]
+( - |)
+- |
+\\ x -> |
+if x then y else |
+f ( |)
+let { } in |
+case |of { }
+case x of { y -> |}
+let { x = |} in y
+( x + |)
+x :: T , |
+";
+    for row in rows.lines() {
+        let (front, back) = row.split_once('|').unwrap_or(("", ""));
+        let tokens = nested(alloc, 201, front, "x", back)?;
+        let found = answer_for(alloc, Part::Exp, &tokens)?;
+        assert_ne!(rt; found.as_str(), "tree");
+        assert_ne!(rt; found.as_str(), "memory");
+    }
+    let tokens = nested(alloc, 199, "(", "x", ")")?;
+    let found = answer_for(alloc, Part::Exp, &tokens)?;
+    assert_eq!(rt; found.as_str(), "tree");
+    let tokens = nested(alloc, 201, "(", "x", ")")?;
+    let found = answer_for(alloc, Part::Exp, &tokens)?;
+    assert_eq!(rt; found.as_str(), "deep 200");
+    Ok(())
+}
