@@ -1,16 +1,15 @@
 -- No tokens are those of two kinds of left sides, whatever stands behind them that goes on no left side.
-use Rattle.std.proofs.Common.{◌≡◌, ℕ, zero, suc, ◌+◌, ◌≤◌, Bool, true, false, List, [], ◌∷◌, ◌++◌, length, refl, sym, ap}
-use Rattle.std.proofs.Common.{◌∙◌, subst, arith, append_assoc, length-append, le_refl, true≢false, inl, inr, ◌⊎◌}
-use Rattle.std.specs.Prelude.{flat_map, ◌&&◌, ◌||◌, None, nat_lt, replicate}
-use Rattle.hs_forms.specs.Reading.{begins, SameStart}
-use Rattle.hs_forms.proofs.FormLemmas.{begins_append, begins_apart, begins_within, begins_same, same_start_self}
-use Rattle.hs_forms.proofs.LimitLemmas.{and_left, and_right, or_left, or_right}
+use Rattle.std.proofs.Common.{◌≡◌, ℕ, zero, suc, ◌≤◌, Bool, true, false, List, [], ◌∷◌, ◌++◌, length, refl, sym, ap}
+use Rattle.std.proofs.Common.{◌∙◌, arith, append_assoc, length-append, le_refl, true≢false, inl, inr}
+use Rattle.std.specs.Prelude.{flat_map, nat_lt}
+use Rattle.hs_forms.specs.Reading.{begins}
+use Rattle.hs_forms.proofs.FormLemmas.{begins_append, begins_apart, begins_within, same_start_self}
+use Rattle.hs_forms.proofs.LimitLemmas.{and_left, and_right, or_left}
 use Rattle.hs_tokens.specs.Terminals.{is_at, is_backquote, is_var_sym, starts_qconop}
-use Rattle.hs_tokens.specs.declared.terminal.Terminal.{Terminal}
 use Rattle.hs_tokens.specs.declared.terminal.Terminal.TheVariants as t
 use Rattle.hs_trees.specs.Patterns.{Ts, var_tokens, gcon_tokens, qconop_tokens, spelling_apat, spelling_lpat}
-use Rattle.hs_trees.specs.Patterns.{spelling_op, spelling_pat, spelling_apats, spelling_pats, is_apat, is_gcon, is_lpat}
-use Rattle.hs_trees.specs.Patterns.{is_pat, are_apats, starts_apat, starts_pat, APats, Pats}
+use Rattle.hs_trees.specs.Patterns.{spelling_op, spelling_pat, spelling_apats, is_apat, is_gcon, is_lpat}
+use Rattle.hs_trees.specs.Patterns.{is_pat, are_apats, starts_apat, APats}
 use Rattle.hs_trees.specs.declared.patterns.VarTree.{VarTree}
 use Rattle.hs_trees.specs.declared.patterns.VarTree.TheVariants as v
 use Rattle.hs_trees.specs.declared.patterns.GConTree.{GConTree}
@@ -24,7 +23,7 @@ use Rattle.hs_trees.specs.declared.patterns.OpLPat.{OpLPat, out-OpLPat, roll-out
 use Rattle.hs_trees.specs.declared.patterns.PatTree.{PatTree, out-PatTree, roll-out-PatTree}
 use Rattle.hs_trees.proofs.PatternLayerLemmas.{apat_starts, var_starts, op_starts, op_spelled, pat_spelled, pat_is}
 use Rattle.hs_trees.proofs.PatternLayerLemmas.{starts_pat_append}
-use Rattle.hs_trees.proofs.PatternCaseLemmas.{is_left_paren, is_var, is_name, pat_no_name, con_spelled, con_is, are_pats, ParenCase}
+use Rattle.hs_trees.proofs.PatternCaseLemmas.{is_left_paren, is_var, is_name, pat_no_name, con_spelled, con_is, ParenCase}
 use Rattle.hs_trees.proofs.PatternCaseLemmas.{of_commas, of_con, of_colon, of_var, of_as, of_parts, paren_cases}
 use Rattle.hs_trees.proofs.PatternCaseLemmas.{VarCase, of_name, of_bound, var_cases}
 use Rattle.hs_trees.proofs.PatternChainLemmas.{apat_apart, op_apart}
@@ -37,9 +36,9 @@ use Rattle.hs_modules.specs.Formed.{is_fun_lhs}
 use Rattle.hs_modules.specs.declared.names.VarOpTree.{VarOpTree}
 use Rattle.hs_modules.specs.declared.names.VarOpTree.TheVariants as o
 use Rattle.hs_modules.specs.declared.expressions.FunLhsTree.{FunLhsTree}
-use Rattle.hs_declaration_forms.proofs.MergeLemmas.{Apart, Side, of_one, of_two}
+use Rattle.hs_declaration_forms.proofs.MergeLemmas.{Side, of_one, of_two}
 use Rattle.hs_left_forms.specs.Lefts.{lpat_goes, left_goes, PrefixParts, InfixParts, WrappedParts, prefixes, infixes}
-use Rattle.hs_left_forms.specs.Lefts.{bare, wrapped, functions, patterns}
+use Rattle.hs_left_forms.specs.Lefts.{bare, wrapped}
 use Rattle.hs_left_forms.proofs.LayerLemmas.{make_bare, make_wrapped, prefix_spelled, infix_spelled, wrapped_spelled}
 use Rattle.hs_left_forms.proofs.LayerLemmas.{function_cases, function_starts}
 

@@ -1,15 +1,15 @@
 -- The returns of the readers of the left sides of functions, over plain variables.
-use Rattle.std.proofs.Common.{◌≡◌, ℕ, ◌+◌, Bool, true, false, List, [], ◌∷◌, ◌++◌, length, refl, sym, ap, ◌∙◌, subst}
+use Rattle.std.proofs.Common.{◌≡◌, ℕ, ◌+◌, true, false, [], ◌∷◌, ◌++◌, length, refl, sym, ap, ◌∙◌, subst}
 use Rattle.std.proofs.Common.{arith, true≢false, inl, inr, ◌⊎◌}
-use Rattle.std.specs.Prelude.{max, min, ◌&&◌, ◌||◌, Option}
+use Rattle.std.specs.Prelude.{max, min, Option}
 use Rattle.std.proofs.lemmas.Bool.{and_from}
 use Rattle.hs_forms.specs.Reading.{begins, SameStart}
 use Rattle.hs_forms.specs.Limits.{Within, lowered}
 use Rattle.hs_forms.specs.Answers.{Accepts, Rejects, Fails}
 use Rattle.hs_forms.specs.declared.fault.Fault.{Fault}
 use Rattle.hs_forms.specs.declared.fault.Fault.TheVariants.{At}
-use Rattle.hs_forms.proofs.FormLemmas.{begins_append, begins_same, begins_within, same_start_append}
-use Rattle.hs_forms.proofs.LimitLemmas.{within_less, or_left, or_right}
+use Rattle.hs_forms.proofs.FormLemmas.{begins_append, begins_same, same_start_append}
+use Rattle.hs_forms.proofs.LimitLemmas.{within_less, or_left}
 use Rattle.hs_tokens.specs.Terminals.{is_right_paren}
 use Rattle.hs_tokens.specs.declared.terminal.Terminal.{Terminal}
 use Rattle.hs_tokens.specs.declared.terminal.Terminal.TheVariants as t

@@ -1,17 +1,16 @@
 -- The left sides of functions by their three forms: tokens, well-formedness and depth.
-use Rattle.std.proofs.Common.{◌≡◌, ℕ, ◌+◌, Bool, true, false, List, [], ◌∷◌, ◌++◌, refl, sym, ap, ◌∙◌, subst, arith}
+use Rattle.std.proofs.Common.{◌≡◌, ◌+◌, Bool, true, false, [], ◌∷◌, ◌++◌, sym, ap, ◌∙◌, subst, arith}
 use Rattle.std.proofs.Common.{append_assoc, inl, inr, ◌⊎◌}
-use Rattle.std.specs.Prelude.{map, max, ◌&&◌, flat_map}
+use Rattle.std.specs.Prelude.{map, max, ◌&&◌}
 use Rattle.hs_forms.specs.Limits.{deepest}
 use Rattle.hs_forms.specs.Forms.{side}
 use Rattle.hs_forms.proofs.FormLemmas.{begins_append}
 use Rattle.hs_tokens.specs.declared.terminal.Terminal.TheVariants as t
-use Rattle.hs_trees.specs.Patterns.{Ts, var_tokens, spelling_apats, spelling_lpat, are_apats, is_lpat, depth_of_apat}
-use Rattle.hs_trees.specs.Patterns.{depth_of_apats, depth_of_lpat, depth_of_pat, starts_apat, starts_pat, APats}
-use Rattle.hs_trees.specs.declared.patterns.VarTree.{VarTree}
+use Rattle.hs_trees.specs.Patterns.{Ts, var_tokens, spelling_apats, spelling_lpat, are_apats, is_lpat}
+use Rattle.hs_trees.specs.Patterns.{depth_of_apats, depth_of_lpat, depth_of_pat, starts_apat, starts_pat}
 use Rattle.hs_trees.specs.declared.patterns.LPatTree.{LPatTree}
 use Rattle.hs_trees.specs.declared.patterns.PatTree.{fold-roll-PatTree}
-use Rattle.hs_trees.proofs.PatternLayerLemmas.{PLayer, pat_deep, apat_pat, var_starts, lpat_starts, starts_pat_append}
+use Rattle.hs_trees.proofs.PatternLayerLemmas.{pat_deep, apat_pat, var_starts, lpat_starts, starts_pat_append}
 use Rattle.hs_trees.proofs.PatternChainLemmas.{make_pat}
 use Rattle.hs_modules.specs.Extents.{Extent, depth_of}
 use Rattle.hs_modules.specs.PartExtents.{apat_extent, lpat_extent, op_lpat_extent, pat_extent, fun_lhs_extent}
@@ -19,7 +18,6 @@ use Rattle.hs_modules.specs.PartExtents.{extent_of_apat, extent_of_lpat, extent_
 use Rattle.hs_modules.specs.Words.{varop_tokens}
 use Rattle.hs_modules.specs.Tokens.{fun_lhs_tokens, spelling_fun_lhs}
 use Rattle.hs_modules.specs.Formed.{fun_lhs_formed, is_fun_lhs}
-use Rattle.hs_modules.specs.declared.names.VarOpTree.{VarOpTree}
 use Rattle.hs_modules.specs.declared.expressions.FunLhsTree.{FunLhsTree, FunLhsTree-F, fold-roll-FunLhsTree}
 use Rattle.hs_modules.specs.declared.expressions.FunLhsTree.{out-FunLhsTree, roll-FunLhsTree, roll-out-FunLhsTree}
 use Rattle.hs_modules.specs.declared.expressions.FunLhsTree.TheVariants as f

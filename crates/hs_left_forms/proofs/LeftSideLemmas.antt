@@ -1,5 +1,5 @@
 -- The returns of the reader of left sides, over plain variables.
-use Rattle.std.proofs.Common.{◌≡◌, ℕ, Bool, true, false, List, [], ◌∷◌, ◌++◌, length, refl, sym, ap, ◌∙◌}
+use Rattle.std.proofs.Common.{◌≡◌, ℕ, Bool, true, false, length, refl, sym, ◌∙◌}
 use Rattle.std.specs.Prelude.{min, ◌||◌, Option}
 use Rattle.hs_forms.specs.Reading.{begins}
 use Rattle.hs_forms.specs.Answers.{Rejects}
@@ -13,7 +13,7 @@ use Rattle.hs_trees.specs.declared.patterns.PatTree.{PatTree}
 use Rattle.hs_modules.specs.declared.expressions.FunLhsTree.{FunLhsTree}
 use Rattle.hs_expression_forms.specs.Trees.{within, Took, Failed}
 use Rattle.hs_expression_forms.specs.Expressions.{pats}
-use Rattle.hs_declaration_forms.proofs.MergeLemmas.{Merges, Apart, Side, of_one, of_two, merged_one, merged_two}
+use Rattle.hs_declaration_forms.proofs.MergeLemmas.{Merges, Side, of_one, of_two, merged_one, merged_two}
 use Rattle.hs_declaration_forms.proofs.MergeLemmas.{merged_fails, wider_took, wider_failed, stands_behind}
 use Rattle.hs_left_forms.specs.Lefts.{lpat_goes, left_goes, functions, patterns, left_sides}
 use Rattle.hs_left_forms.specs.declared.left_side.LeftSide.{LeftSide}

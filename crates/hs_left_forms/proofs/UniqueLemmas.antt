@@ -1,12 +1,12 @@
 -- At most one left side has given tokens.
-use Rattle.std.proofs.Common.{◌≡◌, ℕ, zero, suc, ◌+◌, ◌≤◌, Bool, true, false, List, [], ◌∷◌, ◌++◌, length, refl, sym, ap}
-use Rattle.std.proofs.Common.{◌∙◌, subst, arith, append_assoc, length-append, le_refl, inl, inr, ◌⊎◌}
-use Rattle.std.specs.Prelude.{◌&&◌, None}
+use Rattle.std.proofs.Common.{◌≡◌, ℕ, zero, suc, ◌≤◌, true, [], ◌∷◌, ◌++◌, length, refl, sym, ap}
+use Rattle.std.proofs.Common.{◌∙◌, arith, append_assoc, length-append, le_refl, inl, inr}
+use Rattle.std.specs.Prelude.{None}
 use Rattle.hs_forms.specs.Whole.{Spells}
 use Rattle.hs_forms.proofs.FormLemmas.{uncons}
 use Rattle.hs_forms.proofs.LimitLemmas.{and_left, and_right}
 use Rattle.hs_tokens.specs.declared.terminal.Terminal.TheVariants as t
-use Rattle.hs_trees.specs.Patterns.{Ts, var_tokens, spelling_apats, spelling_lpat, spelling_pat, is_lpat, is_pat, pat_form}
+use Rattle.hs_trees.specs.Patterns.{Ts, var_tokens, spelling_apats, spelling_lpat, spelling_pat, is_lpat, is_pat}
 use Rattle.hs_trees.specs.declared.patterns.VarTree.{VarTree}
 use Rattle.hs_trees.specs.declared.patterns.VarTree.TheVariants as v
 use Rattle.hs_trees.specs.declared.patterns.PatTree.{PatTree}
@@ -20,7 +20,7 @@ use Rattle.hs_modules.specs.declared.expressions.FunLhsTree.{FunLhsTree}
 use Rattle.hs_expression_forms.specs.Trees.{within}
 use Rattle.hs_declaration_forms.proofs.MergeLemmas.{Side, of_one, of_two}
 use Rattle.hs_left_forms.specs.Lefts.{PrefixParts, InfixParts, WrappedParts, prefixes, infixes, bare, wrapped}
-use Rattle.hs_left_forms.specs.Lefts.{functions, left_sides}
+use Rattle.hs_left_forms.specs.Lefts.{left_sides}
 use Rattle.hs_left_forms.specs.declared.left_side.LeftSide.{LeftSide}
 use Rattle.hs_left_forms.specs.declared.left_side.LeftSide.TheVariants as v_left
 use Rattle.hs_left_forms.proofs.LayerLemmas.{make_prefix, make_infix, make_wrapped, make_bare, prefix_spelled}

@@ -1,5 +1,5 @@
 -- The returns of the reader of variable operators, over plain variables.
-use Rattle.std.proofs.Common.{◌≡◌, ℕ, true, false, List, [], ◌∷◌, ◌++◌, length, refl, sym, ap, ◌∙◌}
+use Rattle.std.proofs.Common.{◌≡◌, ℕ, true, false, List, [], ◌∷◌, ◌++◌, length, refl, ap}
 use Rattle.hs_forms.specs.Reading.{begins}
 use Rattle.hs_forms.specs.Answers.{Rejects}
 use Rattle.hs_tokens.specs.Terminals.{is_backquote, is_var_sym}

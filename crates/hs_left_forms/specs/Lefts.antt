@@ -1,6 +1,6 @@
 -- The left sides of declarations (Haskell 2010 Report, sections 4.4.3.1 and 4.4.3.2): that of a function, or a pattern. A
 -- variable alone is a pattern.
-use Rattle.std.specs.Prelude.{◌≡◌, ℕ, ◌+◌, max, Bool, true, false, ◌&&◌, ◌||◌, List, [], ◌∷◌, ◌++◌, ◌⊎◌}
+use Rattle.std.specs.Prelude.{ℕ, ◌+◌, Bool, true, false, ◌||◌, List, [], ◌∷◌, ◌++◌, ◌⊎◌}
 use Rattle.hs_forms.specs.Reading.{Form}
 use Rattle.hs_forms.specs.Answers.{Sort}
 use Rattle.hs_forms.specs.Forms.{side}
