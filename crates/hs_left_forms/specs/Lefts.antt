@@ -1,9 +1,11 @@
 -- The left sides of declarations (Haskell 2010 Report, sections 4.4.3.1 and 4.4.3.2): that of a function, or a pattern. A
 -- variable alone is a pattern.
-use Rattle.std.specs.Prelude.{ℕ, ◌+◌, Bool, true, false, ◌||◌, List, [], ◌∷◌, ◌++◌, ◌⊎◌}
+use Rattle.std.specs.Prelude.{ℕ, ◌+◌, Bool, true, false, ◌||◌, List, [], ◌∷◌, ◌++◌, ◌⊎◌, min}
 use Rattle.hs_forms.specs.Reading.{Form}
 use Rattle.hs_forms.specs.Answers.{Sort}
 use Rattle.hs_forms.specs.Forms.{side}
+use Rattle.hs_forms.specs.declared.fault.Fault.{Fault}
+use Rattle.hs_forms.specs.declared.fault.Fault.TheVariants.{At, NoMemory}
 use Rattle.hs_tokens.specs.Terminals.{is_at, is_var_sym, starts_qconop}
 use Rattle.hs_tokens.specs.declared.terminal.Terminal.{Terminal}
 use Rattle.hs_tokens.specs.declared.terminal.Terminal.TheVariants as t
@@ -79,8 +81,12 @@ prefixes = on_the_left prefix_rows
 abbrev pub InfixParts : Type 0
 InfixParts = LPatTree × (VarOpTree × LPatTree)
 
+-- an operator and the operand behind it
+abbrev pub behinds : Trees Terminal (VarOpTree × LPatTree)
+behinds = row varops lpats
+
 abbrev pub infix_rows : Trees Terminal InfixParts
-infix_rows = row lpats (row varops lpats)
+infix_rows = row lpats behinds
 
 abbrev pub infixes : Trees Terminal InfixParts
 infixes = on_the_left infix_rows
@@ -141,3 +147,8 @@ left_sides = record {
   deep = depth_of_left_side;
   extends = λ x k. left_goes k;
 }
+
+-- of two failures from one place the later, where the first left so many tokens
+abbrev pub later : ℕ → Fault → Fault
+later left (At right) = At (min left right)
+later left NoMemory = NoMemory
