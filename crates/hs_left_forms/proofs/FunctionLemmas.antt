@@ -421,7 +421,8 @@ module _ (limit : Option ℕ) (ts next : Ts) (at : ts ≡ t.LeftParen ∷ next) 
   function_bracketed p rest m acc =
       function_wrapped limit ts p rest m (subst (λ l. Took wrapped limit l p rest m) (sym at) acc)
 
-  pub brackets_fail : (l n : ℕ) → Rejects (within bare limit) ts l →
-      Rejects (within wrapped limit) (t.LeftParen ∷ next) n → Rejects (within functions limit) ts (min l n)
-  brackets_fail l n r q =
+  pub brackets_fail : (l : ℕ) → Rejects (within bare limit) ts l → (e : Fault) →
+      Failed wrapped limit (t.LeftParen ∷ next) e → Failed functions limit ts (later l e)
+  brackets_fail l r (At n) q =
       function_fails limit ts l n r (subst (λ l. Rejects (within wrapped limit) l n) (sym at) q)
+  brackets_fail l r NoMemory q = tt

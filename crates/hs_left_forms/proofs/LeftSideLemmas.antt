@@ -4,6 +4,7 @@ use Rattle.std.specs.Prelude.{min, ◌||◌, Option}
 use Rattle.hs_forms.specs.Reading.{begins}
 use Rattle.hs_forms.specs.Answers.{Rejects}
 use Rattle.hs_forms.specs.declared.fault.Fault.{Fault}
+use Rattle.hs_forms.specs.declared.fault.Fault.TheVariants.{At, NoMemory}
 use Rattle.hs_forms.proofs.FormLemmas.{begins_same}
 use Rattle.hs_forms.proofs.LimitLemmas.{or_left, or_right}
 use Rattle.hs_tokens.specs.Terminals.{is_var_sym, starts_qconop}
@@ -15,7 +16,7 @@ use Rattle.hs_expression_forms.specs.Trees.{within, Took, Failed}
 use Rattle.hs_expression_forms.specs.Expressions.{pats}
 use Rattle.hs_declaration_forms.proofs.MergeLemmas.{Merges, Side, of_one, of_two, merged_one, merged_two}
 use Rattle.hs_declaration_forms.proofs.MergeLemmas.{merged_fails, wider_took, wider_failed, stands_behind}
-use Rattle.hs_left_forms.specs.Lefts.{lpat_goes, left_goes, functions, patterns, left_sides}
+use Rattle.hs_left_forms.specs.Lefts.{later, lpat_goes, left_goes, functions, patterns, left_sides}
 use Rattle.hs_left_forms.specs.declared.left_side.LeftSide.{LeftSide}
 use Rattle.hs_left_forms.specs.declared.left_side.LeftSide.TheVariants as v_left
 use Rattle.hs_left_forms.proofs.ApartLemmas.{no_pattern}
@@ -80,7 +81,8 @@ module _ (limit : Option ℕ) (ts : Ts) where
       (λ s y after same good quiet e.
       no_pattern y good x after s acc.reads.good.0 quiet (begins_same left_goes rest s same ∙ off) (sym e))
 
-  pub left_fails : (l n : ℕ) → Rejects (within functions limit) ts l → Rejects (within patterns limit) ts n →
-      Rejects (within left_sides limit) ts (min l n)
-  left_fails l n r q =
+  pub left_fails : (l : ℕ) → Rejects (within functions limit) ts l → (e : Fault) → Failed patterns limit ts e →
+      Failed left_sides limit ts (later l e)
+  left_fails l r (At n) q =
       merged_fails functions patterns left_sides v_left.Function v_left.Pattern lefts_merge limit ts l n r q
+  left_fails l r NoMemory q = tt

@@ -151,8 +151,7 @@ fn read_last<'a>(
                 depth: read.depth,
             })
         }
-        Err(Fault::NoMemory) => Err(Fault::NoMemory),
-        Err(Fault::At(right)) => Err(Fault::At(left.min(right))),
+        Err(fault) => Err(later(left, fault)),
     }
 }
 

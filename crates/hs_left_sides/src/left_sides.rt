@@ -15,7 +15,7 @@ ghost use Rattle.hs_expression_forms.specs.Trees.{sort_of, within};
 ghost use Rattle.hs_left_forms.specs.Lefts.{functions, patterns, left_sides, left_goes};
 
 use crate::functions::read_function;
-use crate::leaf::goes_on_left;
+use crate::leaf::{goes_on_left, later};
 use hs_forms::Fault;
 use hs_left_forms::LeftSide;
 use hs_modules::FunLhsTree;
@@ -72,8 +72,7 @@ fn read_pattern_side<'a>(
             rest: pattern.rest,
             depth: pattern.depth,
         }),
-        Err(Fault::NoMemory) => Err(Fault::NoMemory),
-        Err(Fault::At(right)) => Err(Fault::At(left.min(right))),
+        Err(fault) => Err(later(left, fault)),
     }
 }
 

@@ -29,11 +29,10 @@ read_last-returns-in_ok-inner-in-Ok t c =
     rw c.in_ok-inner-in-Ok.ensures (function_bracketed c.args.limit c.args.tokens.now _ c.in-Some.ensures _ _ _
     c.in-Ok.ensures)
 
-pub read_last-returns-in-Err-At : goal.read_last-returns-in-Err-At
-read_last-returns-in-Err-At t c =
-    let r = rw c.in-Err-At.field-0-is at c.in-Err-At.ensures in
-    rw (c.min.ensures, c.in-Err-At.field-0-is) (brackets_fail c.args.limit c.args.tokens.now _ c.in-Some.ensures
-    c.args.left _ c.requires r)
+pub read_last-returns-in-Err : goal.read_last-returns-in-Err
+read_last-returns-in-Err t c =
+    rw c.later.ensures (brackets_fail c.args.limit c.args.tokens.now _ c.in-Some.ensures c.args.left c.requires _
+    c.in-Err.ensures)
 
 pub read_wrapped-returns-in_err-inner : goal.read_wrapped-returns-in_err-inner
 read_wrapped-returns-in_err-inner t c =
