@@ -28,7 +28,7 @@ use Rattle.hs_modules.specs.declared.names.VarOpTree.{VarOpTree}
 use Rattle.hs_modules.specs.declared.names.VarOpTree.TheVariants as o
 use Rattle.hs_modules.specs.declared.expressions.FunLhsTree.{FunLhsTree}
 use Rattle.hs_headers.specs.Names.{var_form}
-use Rattle.hs_expression_forms.specs.Trees.{Trees, within, Took, Failed, row, ended, behind_token, Follows, Makes}
+use Rattle.hs_expression_forms.specs.Trees.{Trees, within, Took, Failed, ended, behind_token, Follows, Makes}
 use Rattle.hs_expression_forms.specs.Expressions.{apats}
 use Rattle.hs_expression_forms.proofs.TreesLemmas.{row_took, row_first, row_second, ended_took, ended_failed}
 use Rattle.hs_expression_forms.proofs.TreesLemmas.{ended_missed, behind_made, behind_made_failed, stays_first}
@@ -37,7 +37,8 @@ use Rattle.hs_declaration_forms.proofs.FlatLemmas.{flat_took, flat_failed}
 use Rattle.hs_declaration_forms.proofs.ListLemmas.{var_flat}
 use Rattle.hs_declaration_forms.proofs.MergeLemmas.{Merges, Apart, Side, of_one, of_two, merged_one, merged_two}
 use Rattle.hs_declaration_forms.proofs.MergeLemmas.{merged_fails, wider_took, wider_failed}
-use Rattle.hs_left_forms.specs.Lefts.{lpat_goes, left_goes, starts_varop, varop_form, varops, lpats, together, on_the_left}
+use Rattle.hs_left_forms.specs.Lefts.{lpat_goes, left_goes, starts_varop, varop_form, varops, lpats, together}
+use Rattle.hs_left_forms.specs.Lefts.{on_the_left}
 use Rattle.hs_left_forms.specs.Lefts.{PrefixParts, InfixParts, WrappedParts, prefix_rows, prefixes, infix_rows, infixes}
 use Rattle.hs_left_forms.specs.Lefts.{wrapped_rows, wrapped, bracketed, bare, functions}
 use Rattle.hs_left_forms.proofs.LayerLemmas.{make_prefix, make_infix, make_wrapped, make_bare, functions_merge}
@@ -55,9 +56,11 @@ use Rattle.hs_left_forms.specs.Lefts.{behinds, later}
 args_start : (p : APats) → begins starts_apat (apats.tokens p) ≡ true
 args_start p = begins_append starts_apat (spelling_apat p.0) _ (apat_starts p.0)
 
+-- least arguments
 abbrev least_args : APats
 least_args = (a.Var (v.Id []), [])
 
+-- arguments behind a name
 name_follows : Follows vars apats starts_apat
 name_follows = record {
   starts = args_start;
@@ -67,6 +70,7 @@ name_follows = record {
   least_deep = omega (arith, var_deep (v.Id []));
 }
 
+-- arguments behind brackets
 brackets_follow : Follows bracketed apats starts_apat
 brackets_follow = record {
   starts = args_start;
@@ -76,6 +80,7 @@ brackets_follow = record {
   least_deep = omega (arith, var_deep (v.Id []));
 }
 
+-- what begins as a pattern begins with the first token of an `lpat`
 pat_opens : (ts : Ts) → starts_pat ts ≡ true → begins starts_lpat ts ≡ true
 pat_opens [] h = h
 pat_opens (t.VarSym n ∷ []) h = absurd (true≢false (sym h))
@@ -92,12 +97,15 @@ pat_opens (t.Underscore ∷ ts) h = refl
 pat_opens (t.Tilde ∷ ts) h = refl
 pat_opens (_ ∷ ts) h = absurd (true≢false (sym h))
 
+-- a least operand is well formed
 negative_is : is_lpat (lp.Negative []) ≡ true
 negative_is = ap is_lpat (sym (lp.rolls-Negative [])) ∙ lpat_is (LPatTree-F.Negative [])
 
+-- a least operand has no depth
 negative_deep : depth_of_lpat (lp.Negative []) ≡ 0
 negative_deep = ap depth_of_lpat (sym (lp.rolls-Negative [])) ∙ lpat_deep (LPatTree-F.Negative [])
 
+-- an operand behind an operator
 operand_follows : Follows varops lpats starts_lpat
 operand_follows = record {
   starts = λ y. pat_opens (spelling_lpat y) (lpat_starts y);
@@ -107,15 +115,18 @@ operand_follows = record {
   least_deep = negative_deep;
 }
 
+-- the first token of a variable operator
 varop_first : (x : VarOpTree) (s : Ts) → begins starts_varop (varop_tokens x ++ s) ≡ true
 varop_first (o.Sym n) s = refl
 varop_first (o.Quoted n) s = refl
 
+-- no `lpat` goes on with a variable operator
 varop_stops : (k : Terminal) → starts_varop k ≡ true → lpat_goes k ≡ false
 varop_stops (t.VarSym n) h = refl
 varop_stops t.Backquote h = refl
 varop_stops _ h = absurd (true≢false (sym h))
 
+-- an operator behind an operand
 operator_follows : Follows lpats behinds starts_varop
 operator_follows = record {
   starts = λ y. varop_first y.0 (spelling_lpat y.1);
@@ -131,11 +142,13 @@ args_quiet k e = or_left (lpat_goes k) _ e
 
 module _ {T : Type 0} (rows : Trees Terminal T) (goes : (x : T) (k : Terminal) → rows.extends x k ≡ lpat_goes k)
     (limit : Option ℕ) (ts : Ts) where
+  -- such a row was read, as a left side
   left_took : (x : T) (rest : Ts) (m : ℕ) → Took rows limit ts x rest m → Took (on_the_left rows) limit ts x rest m
   left_took x rest m acc =
       wider_took rows (on_the_left rows) (λ x. refl) (λ x. refl) (λ x. refl) (λ x k e. goes x k ∙ args_quiet k e) limit
       ts x rest m acc
 
+  -- no such row stands here, as a left side
   left_failed : (e : Fault) → Failed rows limit ts e → Failed (on_the_left rows) limit ts e
   left_failed e r =
       wider_failed rows (on_the_left rows) (λ x. refl) (λ x. refl) (λ x. refl) (λ x k e. goes x k ∙ args_quiet k e)
@@ -224,6 +237,7 @@ module _ (limit : Option ℕ) (room : Within limit 1) (b : Option ℕ) (low : b 
       bracketed_makes limit room (t.LeftParen ∷ next) next e (stays_first is_left_paren (t.LeftParen ∷ next) refl) refl
       (subst (λ l. Failed (ended functions t.RightParen) l next e) low r)
 
+  -- no left side stands behind the bracket
   pub inner_failed : (e : Fault) → Failed functions b next e → Failed bracketed limit (t.LeftParen ∷ next) e
   inner_failed e r = ended_fails e (ended_failed functions b t.RightParen (λ x. refl) next e r)
 
@@ -287,13 +301,16 @@ together_merges {K} {A} {B} one two = record {
     cases (inl x) h = of_one x refl h
     cases (inr x) h = of_two x refl h
 
+-- what is read as a name with arguments is no operator between operands
 prefix_apart : (p : PrefixParts) (rest : Ts) → Apart prefixes infixes p rest
 prefix_apart p rest s h after same good quiet e = prefix_no_infix p h s after good e
 
+-- what is read without brackets is no left side in brackets
 bare_apart : (p : PrefixParts ⊎ InfixParts) (rest : Ts) → bare.formed p ≡ true → Apart bare wrapped p rest
 bare_apart (inl p) rest is s h after same good quiet e = prefix_no_wrapped p h s after e
 bare_apart (inr p) rest is s h after same good quiet e = infix_no_wrapped p h s after is good e
 
+-- what is read in brackets is no left side without them
 wrapped_apart : (p : WrappedParts) (rest : Ts) → wrapped.formed p ≡ true → Apart wrapped bare p rest
 wrapped_apart p rest is s (inl h) after same good quiet e = prefix_no_wrapped h p after s (sym e)
 wrapped_apart p rest is s (inr h) after same good quiet e = infix_no_wrapped h p after s good is (sym e)
@@ -306,6 +323,7 @@ module _ (limit : Option ℕ) (ts : Ts) where
       (merged_one prefixes infixes bare inl inr (together_merges prefixes infixes) limit ts p rest m acc
       (prefix_apart p rest)) (bare_apart (inl p) rest acc.reads.good.0)
 
+  -- an operand, an operator and an operand as the left side of a function
   pub function_infix : (x : LPatTree) (here : Ts) (m : ℕ) → Took lpats limit ts x here m →
       (y : VarOpTree × LPatTree) (rest : Ts) (d : ℕ) → Took behinds limit here y rest d →
       Took functions limit ts (make_infix (x, y)) rest (max m d)
@@ -317,12 +335,14 @@ module _ (limit : Option ℕ) (ts : Ts) where
       (λ s h after same g quiet e. prefix_no_infix h (x, y) after s good (sym e)))
       (bare_apart (inr (x, y)) rest good)
 
+  -- brackets with arguments as the left side of a function
   pub function_wrapped : (p : WrappedParts) (rest : Ts) (m : ℕ) → Took wrapped limit ts p rest m →
       Took functions limit ts (make_wrapped p) rest m
   function_wrapped p rest m acc =
       merged_two bare wrapped functions make_bare make_wrapped functions_merge limit ts p rest m acc
       (wrapped_apart p rest acc.reads.good.0)
 
+  -- neither a name with arguments nor an operator between operands stands here
   bare_fails : (l n : ℕ) → Rejects (within prefixes limit) ts l → Rejects (within infixes limit) ts n →
       Rejects (within bare limit) ts (min l n)
   bare_fails l n r q = merged_fails prefixes infixes bare inl inr (together_merges prefixes infixes) limit ts l n r q
@@ -332,6 +352,7 @@ module _ (limit : Option ℕ) (ts : Ts) where
       Rejects (within bare limit) ts (min l n)
   operand_fails l n r q = bare_fails l n r (operand_failed limit ts (At n) q)
 
+  -- neither of these stands here, nor brackets with arguments
   function_fails : (l n : ℕ) → Rejects (within bare limit) ts l → Rejects (within wrapped limit) ts n →
       Rejects (within functions limit) ts (min l n)
   function_fails l n r q =
@@ -366,7 +387,8 @@ module _ (limit : Option ℕ) (ts : Ts) where
           Side bare wrapped make_bare make_wrapped other → ⊥
       by s other after same good quiet e (of_one p is h) =
           r.refuses.never s p after same
-          (h, subst (Within limit) (ap functions.deep is ∙ functions_merge.deep_one p) good.1) (bare_quiet p after quiet)
+          (h, subst (Within limit) (ap functions.deep is ∙ functions_merge.deep_one p) good.1)
+          (bare_quiet p after quiet)
           (e ∙ ap (λ x. functions.tokens x ++ after) is ∙ ap (λ l. l ++ after) (functions_merge.tokens_one p))
         where
           bare_quiet : (p : PrefixParts ⊎ InfixParts) (after : Ts) → begins left_goes after ≡ false →
@@ -408,6 +430,7 @@ module _ (limit : Option ℕ) (ts : Ts) where
       (cut.0 ++ s) acc.reads.good.0
       (sym (wrapped_split p after) ∙ sym e ∙ ap (λ k. k ++ s) cut.1 ∙ append_assoc (spelling_lpat x) cut.0 s))
 
+  -- the same of any failure
   pub behind_failed : (x : LPatTree) (here : Ts) (m : ℕ) → Took lpats limit ts x here m → (l : ℕ) →
       Rejects (within prefixes limit) ts l → (e : Fault) → Failed behinds limit here e →
       Failed functions limit ts (later l e)
@@ -421,6 +444,7 @@ module _ (limit : Option ℕ) (ts next : Ts) (at : ts ≡ t.LeftParen ∷ next) 
   function_bracketed p rest m acc =
       function_wrapped limit ts p rest m (subst (λ l. Took wrapped limit l p rest m) (sym at) acc)
 
+  -- no brackets with arguments stand here either
   pub brackets_fail : (l : ℕ) → Rejects (within bare limit) ts l → (e : Fault) →
       Failed wrapped limit (t.LeftParen ∷ next) e → Failed functions limit ts (later l e)
   brackets_fail l r (At n) q =

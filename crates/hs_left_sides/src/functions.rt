@@ -81,7 +81,7 @@ fn read_operated<'a>(
 }
 
 /// The left side of a function: a name and its arguments, an operator between two operands, or such a left side in
-/// brackets with more arguments. What begins with an operand has no such brackets, so those are read where no operand is.
+/// brackets with more arguments. What begins with an operand has no such brackets, so they are read where none does.
 #[cycle(functions)]
 pub fn read_function<'a>(
     alloc: Global,

@@ -78,8 +78,8 @@ fn read_pattern_side<'a>(
 
 /// The left side of a declaration: that of a function, or a pattern. A variable alone is a pattern.
 ///
-/// No token tells them apart: `(x + y) z` begins as `(x : y)` does. Both are read; the tree is the one that was read, and of
-/// two refusals the later stands. A token by which a left side may go on, and by which this one does not, is refused.
+/// No token tells them apart: `(x + y) z` begins as `(x : y)` does. Both are read; the tree is the one that was read,
+/// and of two refusals the later stands. A token by which left sides go on, but not this one, is refused.
 pub fn read_left_side<'a>(
     alloc: Global,
     tokens: &'a [Terminal],
