@@ -1,16 +1,15 @@
 -- No tokens are those of two kinds of left sides, whatever stands behind them that goes on no left side.
-use Rattle.std.proofs.Common.{◌≡◌, ℕ, zero, suc, ◌+◌, ◌≤◌, Bool, true, false, List, [], ◌∷◌, ◌++◌, length, refl, sym, ap}
-use Rattle.std.proofs.Common.{◌∙◌, subst, arith, append_assoc, length-append, le_refl, true≢false, inl, inr, ◌⊎◌}
-use Rattle.std.specs.Prelude.{flat_map, ◌&&◌, ◌||◌, None, nat_lt, replicate}
-use Rattle.hs_forms.specs.Reading.{begins, SameStart}
-use Rattle.hs_forms.proofs.FormLemmas.{begins_append, begins_apart, begins_within, begins_same, same_start_self}
-use Rattle.hs_forms.proofs.LimitLemmas.{and_left, and_right, or_left, or_right}
+use Rattle.std.proofs.Common.{◌≡◌, ℕ, zero, suc, ◌≤◌, Bool, true, false, List, [], ◌∷◌, ◌++◌, length, refl, sym, ap}
+use Rattle.std.proofs.Common.{◌∙◌, arith, append_assoc, length-append, le_refl, true≢false, inl, inr}
+use Rattle.std.specs.Prelude.{flat_map, nat_lt}
+use Rattle.hs_forms.specs.Reading.{begins}
+use Rattle.hs_forms.proofs.FormLemmas.{begins_append, begins_apart, begins_within, same_start_self}
+use Rattle.hs_forms.proofs.LimitLemmas.{and_left, and_right, or_left}
 use Rattle.hs_tokens.specs.Terminals.{is_at, is_backquote, is_var_sym, starts_qconop}
-use Rattle.hs_tokens.specs.declared.terminal.Terminal.{Terminal}
 use Rattle.hs_tokens.specs.declared.terminal.Terminal.TheVariants as t
 use Rattle.hs_trees.specs.Patterns.{Ts, var_tokens, gcon_tokens, qconop_tokens, spelling_apat, spelling_lpat}
-use Rattle.hs_trees.specs.Patterns.{spelling_op, spelling_pat, spelling_apats, spelling_pats, is_apat, is_gcon, is_lpat}
-use Rattle.hs_trees.specs.Patterns.{is_pat, are_apats, starts_apat, starts_pat, APats, Pats}
+use Rattle.hs_trees.specs.Patterns.{spelling_op, spelling_pat, spelling_apats, is_apat, is_gcon, is_lpat}
+use Rattle.hs_trees.specs.Patterns.{is_pat, are_apats, starts_apat, APats}
 use Rattle.hs_trees.specs.declared.patterns.VarTree.{VarTree}
 use Rattle.hs_trees.specs.declared.patterns.VarTree.TheVariants as v
 use Rattle.hs_trees.specs.declared.patterns.GConTree.{GConTree}
@@ -24,7 +23,8 @@ use Rattle.hs_trees.specs.declared.patterns.OpLPat.{OpLPat, out-OpLPat, roll-out
 use Rattle.hs_trees.specs.declared.patterns.PatTree.{PatTree, out-PatTree, roll-out-PatTree}
 use Rattle.hs_trees.proofs.PatternLayerLemmas.{apat_starts, var_starts, op_starts, op_spelled, pat_spelled, pat_is}
 use Rattle.hs_trees.proofs.PatternLayerLemmas.{starts_pat_append}
-use Rattle.hs_trees.proofs.PatternCaseLemmas.{is_left_paren, is_var, is_name, pat_no_name, con_spelled, con_is, are_pats, ParenCase}
+use Rattle.hs_trees.proofs.PatternCaseLemmas.{is_left_paren, is_var, is_name, pat_no_name, con_spelled, con_is}
+use Rattle.hs_trees.proofs.PatternCaseLemmas.{ParenCase}
 use Rattle.hs_trees.proofs.PatternCaseLemmas.{of_commas, of_con, of_colon, of_var, of_as, of_parts, paren_cases}
 use Rattle.hs_trees.proofs.PatternCaseLemmas.{VarCase, of_name, of_bound, var_cases}
 use Rattle.hs_trees.proofs.PatternChainLemmas.{apat_apart, op_apart}
@@ -37,9 +37,9 @@ use Rattle.hs_modules.specs.Formed.{is_fun_lhs}
 use Rattle.hs_modules.specs.declared.names.VarOpTree.{VarOpTree}
 use Rattle.hs_modules.specs.declared.names.VarOpTree.TheVariants as o
 use Rattle.hs_modules.specs.declared.expressions.FunLhsTree.{FunLhsTree}
-use Rattle.hs_declaration_forms.proofs.MergeLemmas.{Apart, Side, of_one, of_two}
+use Rattle.hs_declaration_forms.proofs.MergeLemmas.{Side, of_one, of_two}
 use Rattle.hs_left_forms.specs.Lefts.{lpat_goes, left_goes, PrefixParts, InfixParts, WrappedParts, prefixes, infixes}
-use Rattle.hs_left_forms.specs.Lefts.{bare, wrapped, functions, patterns}
+use Rattle.hs_left_forms.specs.Lefts.{bare, wrapped}
 use Rattle.hs_left_forms.proofs.LayerLemmas.{make_bare, make_wrapped, prefix_spelled, infix_spelled, wrapped_spelled}
 use Rattle.hs_left_forms.proofs.LayerLemmas.{function_cases, function_starts}
 
@@ -47,14 +47,16 @@ use Rattle.hs_left_forms.proofs.LayerLemmas.{function_cases, function_starts}
 abbrev pub Quiet : Ts → Type 0
 Quiet s = begins left_goes s ≡ false
 
+-- what goes on no left side goes on no `lpat`
 pub quiet_lpat : (s : Ts) → Quiet s → begins lpat_goes s ≡ false
 quiet_lpat s h = begins_within left_goes lpat_goes s (λ k e. or_left (lpat_goes k) _ e) h
 
--- a variable's symbol, or its name, stands second
+-- a variable's symbol stands second
 abbrev second_sym : Ts → Bool
 second_sym (k ∷ t.VarSym n ∷ ts) = true
 second_sym _ = false
 
+-- a variable's name stands second
 abbrev second_var : Ts → Bool
 second_var (k ∷ t.Var n ∷ ts) = true
 second_var _ = false
@@ -80,6 +82,7 @@ args_start : (p : APats) (s : Ts) → begins starts_apat (spelling_apats p ++ s)
 args_start p s =
     begins_append starts_apat (spelling_apats p) s (begins_append starts_apat (spelling_apat p.0) _ (apat_starts p.0))
 
+-- what begins an argument is no `@`
 no_at : (s : Ts) → begins starts_apat s ≡ true → begins is_at s ≡ false
 no_at [] h = refl
 no_at (k ∷ s) h = apat_apart k h
@@ -111,21 +114,24 @@ one_lpat x y s r is it quiet_s quiet_r e =
     let n = length (spelling_lpat x) in
     (lpat_all n (upto n) x (le_refl n) is s quiet_s).only s y r (same_start_self s) (it, tt) quiet_r e
 
+-- the same of arguments
 pub one_apats : (x y : APats) (s r : Ts) → are_apats x ≡ true → are_apats y ≡ true → begins lpat_goes s ≡ false →
     begins lpat_goes r ≡ false → spelling_apats x ++ s ≡ spelling_apats y ++ r → (y ≡ x) × (r ≡ s)
 one_apats x y s r is it quiet_s quiet_r e =
     let n = length (spelling_apats x) in
     (apats_all n (upto n) x (le_refl n) is s quiet_s).only s y r (same_start_self s) (it, tt) quiet_r e
 
--- a variable operator, which goes on no `lpat` and is no constructor operator
+-- no `lpat` goes on with a variable operator
 pub varop_quiet : (x : VarOpTree) (s : Ts) → begins lpat_goes (varop_tokens x ++ s) ≡ false
 varop_quiet (o.Sym n) s = refl
 varop_quiet (o.Quoted n) s = refl
 
+-- a left side may go on with a variable operator
 varop_goes : (x : VarOpTree) (s : Ts) → begins left_goes (varop_tokens x ++ s) ≡ true
 varop_goes (o.Sym n) s = refl
 varop_goes (o.Quoted n) s = refl
 
+-- a variable operator is no constructor operator
 no_qconop : (x : VarOpTree) (y : QConOpTree) (s r : Ts) → varop_tokens x ++ s ≡ qconop_tokens y ++ r → ⊥
 no_qconop (o.Sym n) (q.Sym m) s r e = true≢false (ap (begins is_var_sym) e)
 no_qconop (o.Sym n) q.Colon s r e = true≢false (ap (begins is_var_sym) e)
@@ -134,13 +140,14 @@ no_qconop (o.Quoted n) (q.Sym m) s r e = true≢false (ap (begins is_backquote) 
 no_qconop (o.Quoted n) q.Colon s r e = true≢false (ap (begins is_backquote) e)
 no_qconop (o.Quoted n) (q.Quoted m) s r e = true≢false (ap second_var e)
 
--- what stands behind the first operand of a pattern
+-- what stands behind the first operand of a pattern goes on no `lpat`
 ops_quiet : (xs : List OpLPat) (s : Ts) → Quiet s → begins lpat_goes (flat_map spelling_op xs ++ s) ≡ false
 ops_quiet [] s h = quiet_lpat s h
 ops_quiet (x ∷ xs) s h =
     begins_apart starts_qconop lpat_goes (flat_map spelling_op (x ∷ xs)) s op_apart
     (begins_append starts_qconop (spelling_op x) _ (op_starts x))
 
+-- no variable operator stands behind the first operand of a pattern
 ops_no_varop : (x : VarOpTree) (more : Ts) (xs : List OpLPat) (s : Ts) → Quiet s →
     varop_tokens x ++ more ≡ flat_map spelling_op xs ++ s → ⊥
 ops_no_varop x more [] s h e = true≢false (sym (varop_goes x more) ∙ ap (begins left_goes) e ∙ h)
@@ -151,13 +158,15 @@ ops_no_varop x more (y ∷ ys) s h e =
     no_qconop x z.op more (spelling_lpat z.pat ++ (flat_map spelling_op ys ++ s))
     (e ∙ ap (λ l. (l ++ flat_map spelling_op ys) ++ s) spelled ∙ simp append_assoc)
 
--- a pattern's first operand and what stands behind it
+-- a pattern's first operand
 first_of : PatTree → LPatTree
 first_of p = (out-PatTree p).first
 
+-- the operators and operands of a pattern behind its first operand
 ops_of : PatTree → List OpLPat
 ops_of p = (out-PatTree p).rest
 
+-- a pattern is its first operand and what stands behind it
 pat_parts : (p : PatTree) (s : Ts) → spelling_pat p ++ s ≡ spelling_lpat (first_of p) ++
     (flat_map spelling_op (ops_of p) ++ s)
 unfolding first_of ops_of
@@ -165,18 +174,20 @@ pat_parts p s =
     ap (λ l. l ++ s) (ap spelling_pat (sym (roll-out-PatTree p)) ∙ pat_spelled (out-PatTree p))
     ∙ append_assoc (spelling_lpat (out-PatTree p).first) (flat_map spelling_op (out-PatTree p).rest) s
 
+-- the first operand of a well formed pattern is well formed
 first_formed : (p : PatTree) → is_pat p ≡ true → is_lpat (first_of p) ≡ true
 unfolding first_of
 first_formed p h =
     and_left (is_lpat (out-PatTree p).first) _ (sym (pat_is (out-PatTree p)) ∙ ap is_pat (roll-out-PatTree p) ∙ h)
 
--- no pattern is a left side with a name or an operator
+-- no pattern is a left side with a name and arguments
 prefix_no_pat : (f : PrefixParts) (p : PatTree) (s r : Ts) → is_pat p ≡ true → Quiet r →
     prefixes.tokens f ++ s ≡ spelling_pat p ++ r → ⊥
 prefix_no_pat f p s r is quiet e =
     named_apart f.0 f.1 s (first_of p) (flat_map spelling_op (ops_of p) ++ r) (first_formed p is)
     (ops_quiet (ops_of p) r quiet) (sym (append_assoc (var_tokens f.0) (spelling_apats f.1) s) ∙ e ∙ pat_parts p r)
 
+-- no pattern is a left side with a variable operator
 infix_no_pat : (f : InfixParts) (p : PatTree) (s r : Ts) → infixes.formed f ≡ true → is_pat p ≡ true → Quiet r →
     infixes.tokens f ++ s ≡ spelling_pat p ++ r → ⊥
 infix_no_pat f p s r good is quiet e =
@@ -192,13 +203,15 @@ abbrev pub NoPattern : FunLhsTree → Type 0
 NoPattern x =
     (p : PatTree) (s r : Ts) → is_pat p ≡ true → Quiet s → Quiet r → spelling_fun_lhs x ++ s ≡ spelling_pat p ++ r → ⊥
 
--- Such a left side in brackets is no `apat`, and begins no `lpat`.
+-- No name in brackets begins as such a left side does.
 unnamed : (x : FunLhsTree) (s : Ts) → is_name (spelling_fun_lhs x ++ s) ≡ false
 unnamed x s = pat_no_name _ (starts_pat_append (spelling_fun_lhs x) s (function_starts x))
 
+-- what is no name in brackets is none that is one
 name_clash : (xs ys : Ts) → xs ≡ ys → is_name xs ≡ false → is_name ys ≡ true → ⊥
 name_clash xs ys e h k = true≢false (sym k ∙ ap is_name (sym e) ∙ h)
 
+-- brackets about such a left side are no `apat`
 pub brackets_no_apat : (x : FunLhsTree) → NoPattern x → (s : Ts) (y : APatTree) (r : Ts) → is_apat y ≡ true →
     t.LeftParen ∷ (spelling_fun_lhs x ++ t.RightParen ∷ s) ≡ spelling_apat y ++ r → ⊥
 brackets_no_apat x none s y r is e = by (paren_cases y _ r is e)
@@ -219,6 +232,7 @@ brackets_no_apat x none s y r is e = by (paren_cases y _ r is e)
         commas_quiet [] r = refl
         commas_quiet (z ∷ zs) r = refl
 
+-- brackets about such a left side begin no `lpat`
 pub brackets_no_lpat : (x : FunLhsTree) → NoPattern x → (s : Ts) (l : LPatTree) (r : Ts) → is_lpat l ≡ true →
     t.LeftParen ∷ (spelling_fun_lhs x ++ t.RightParen ∷ s) ≡ spelling_lpat l ++ r → ⊥
 brackets_no_lpat x none s l r is e = by (lpat_cases l _ r is e)
@@ -229,10 +243,12 @@ brackets_no_lpat x none s l r is e = by (lpat_cases l _ r is e)
         brackets_no_apat x none s (a.Con c) (spelling_apats ps ++ r) (con_is c ∙ and_left (is_gcon c) _ good) at
     by (of_alone y same good at) = brackets_no_apat x none s y r good at
 
+-- a left side in brackets, with what stands behind it
 pub wrapped_split : (f : WrappedParts) (s : Ts) → wrapped.tokens f ++ s ≡ t.LeftParen ∷
     (spelling_fun_lhs f.0 ++ t.RightParen ∷ (spelling_apats f.1 ++ s))
 wrapped_split f s = simp append_assoc
 
+-- no pattern is a left side in brackets with more arguments
 wrapped_no_pat : (f : WrappedParts) → NoPattern f.0 → (p : PatTree) (s r : Ts) → is_pat p ≡ true →
     wrapped.tokens f ++ s ≡ spelling_pat p ++ r → ⊥
 wrapped_no_pat f none p s r is e =
@@ -261,16 +277,18 @@ no_pattern_by (suc n) x (of_two f same h) short p s r is quiet_s quiet_r e =
     wrapped_no_pat f (no_pattern_by n f.0 (function_cases f.0 good) len) p s r is
     (ap (λ l. l ++ s) (sym (ap spelling_fun_lhs same ∙ wrapped_spelled f)) ∙ e)
 
+-- No well formed left side of a function is a pattern, before what goes on neither.
 pub no_pattern : (x : FunLhsTree) → is_fun_lhs x ≡ true → NoPattern x
 no_pattern x good = no_pattern_by (length (spelling_fun_lhs x)) x (function_cases x good) (le_refl _)
 
--- the kinds of left sides of functions
+-- a name with arguments is no operator between operands
 pub prefix_no_infix : (f : PrefixParts) (h : InfixParts) (s r : Ts) → infixes.formed h ≡ true →
     prefixes.tokens f ++ s ≡ infixes.tokens h ++ r → ⊥
 prefix_no_infix f h s r good e =
     named_apart f.0 f.1 s h.0 (varop_tokens h.1.0 ++ (spelling_lpat h.1.1 ++ r)) (and_left (is_lpat h.0) _ good)
     (varop_quiet h.1.0 _) (sym (append_assoc (var_tokens f.0) (spelling_apats f.1) s) ∙ e ∙ simp append_assoc)
 
+-- a name with arguments is no left side in brackets
 pub prefix_no_wrapped : (f : PrefixParts) (h : WrappedParts) (s r : Ts) →
     prefixes.tokens f ++ s ≡ wrapped.tokens h ++ r → ⊥
 prefix_no_wrapped (v.Id n, p) h s r e = true≢false (ap (begins is_var) e)
@@ -279,6 +297,7 @@ prefix_no_wrapped (v.Sym n, p) h s r e =
     (spelling_apats h.1 ++ r) = (let e' = e ∙ wrapped_split h r in cc) in
     name_clash _ _ (sym at) (unnamed h.0 _) refl
 
+-- an operator between operands is no left side in brackets
 pub infix_no_wrapped : (f : InfixParts) (h : WrappedParts) (s r : Ts) → infixes.formed f ≡ true →
     wrapped.formed h ≡ true → infixes.tokens f ++ s ≡ wrapped.tokens h ++ r → ⊥
 infix_no_wrapped f h s r good is e =

@@ -1,17 +1,16 @@
 -- The left sides of functions by their three forms: tokens, well-formedness and depth.
-use Rattle.std.proofs.Common.{◌≡◌, ℕ, ◌+◌, Bool, true, false, List, [], ◌∷◌, ◌++◌, refl, sym, ap, ◌∙◌, subst, arith}
+use Rattle.std.proofs.Common.{◌≡◌, ◌+◌, Bool, true, false, [], ◌∷◌, ◌++◌, sym, ap, ◌∙◌, subst, arith}
 use Rattle.std.proofs.Common.{append_assoc, inl, inr, ◌⊎◌}
-use Rattle.std.specs.Prelude.{map, max, ◌&&◌, flat_map}
+use Rattle.std.specs.Prelude.{map, max, ◌&&◌}
 use Rattle.hs_forms.specs.Limits.{deepest}
 use Rattle.hs_forms.specs.Forms.{side}
 use Rattle.hs_forms.proofs.FormLemmas.{begins_append}
 use Rattle.hs_tokens.specs.declared.terminal.Terminal.TheVariants as t
-use Rattle.hs_trees.specs.Patterns.{Ts, var_tokens, spelling_apats, spelling_lpat, are_apats, is_lpat, depth_of_apat}
-use Rattle.hs_trees.specs.Patterns.{depth_of_apats, depth_of_lpat, depth_of_pat, starts_apat, starts_pat, APats}
-use Rattle.hs_trees.specs.declared.patterns.VarTree.{VarTree}
+use Rattle.hs_trees.specs.Patterns.{Ts, var_tokens, spelling_apats, spelling_lpat, are_apats, is_lpat}
+use Rattle.hs_trees.specs.Patterns.{depth_of_apats, depth_of_lpat, depth_of_pat, starts_apat, starts_pat}
 use Rattle.hs_trees.specs.declared.patterns.LPatTree.{LPatTree}
 use Rattle.hs_trees.specs.declared.patterns.PatTree.{fold-roll-PatTree}
-use Rattle.hs_trees.proofs.PatternLayerLemmas.{PLayer, pat_deep, apat_pat, var_starts, lpat_starts, starts_pat_append}
+use Rattle.hs_trees.proofs.PatternLayerLemmas.{pat_deep, apat_pat, var_starts, lpat_starts, starts_pat_append}
 use Rattle.hs_trees.proofs.PatternChainLemmas.{make_pat}
 use Rattle.hs_modules.specs.Extents.{Extent, depth_of}
 use Rattle.hs_modules.specs.PartExtents.{apat_extent, lpat_extent, op_lpat_extent, pat_extent, fun_lhs_extent}
@@ -19,7 +18,6 @@ use Rattle.hs_modules.specs.PartExtents.{extent_of_apat, extent_of_lpat, extent_
 use Rattle.hs_modules.specs.Words.{varop_tokens}
 use Rattle.hs_modules.specs.Tokens.{fun_lhs_tokens, spelling_fun_lhs}
 use Rattle.hs_modules.specs.Formed.{fun_lhs_formed, is_fun_lhs}
-use Rattle.hs_modules.specs.declared.names.VarOpTree.{VarOpTree}
 use Rattle.hs_modules.specs.declared.expressions.FunLhsTree.{FunLhsTree, FunLhsTree-F, fold-roll-FunLhsTree}
 use Rattle.hs_modules.specs.declared.expressions.FunLhsTree.{out-FunLhsTree, roll-FunLhsTree, roll-out-FunLhsTree}
 use Rattle.hs_modules.specs.declared.expressions.FunLhsTree.TheVariants as f
@@ -28,19 +26,23 @@ use Rattle.hs_expression_forms.proofs.OperandLayerLemmas.{apat_depth_is, deepest
 use Rattle.hs_declaration_forms.proofs.MergeLemmas.{Merges, Side, of_one, of_two}
 use Rattle.hs_left_forms.specs.Lefts.{PrefixParts, InfixParts, WrappedParts, bare, wrapped, functions}
 
+-- a layer of the left side of a function
 abbrev pub FLayer : Type 0
 FLayer = FunLhsTree-F FunLhsTree
 
--- the trees made of parts
+-- a name with arguments, from its parts
 abbrev pub make_prefix : PrefixParts → FunLhsTree
 make_prefix p = f.Prefix p.0 p.1.0 p.1.1
 
+-- an operator between operands
 abbrev pub make_infix : InfixParts → FunLhsTree
 make_infix p = f.Infix p.0 p.1.0 p.1.1
 
+-- brackets with arguments
 abbrev pub make_wrapped : WrappedParts → FunLhsTree
 make_wrapped p = f.Parens p.0 p.1.0 p.1.1
 
+-- one of the two without brackets
 abbrev pub make_bare : PrefixParts ⊎ InfixParts → FunLhsTree
 make_bare = side make_prefix make_infix
 
@@ -53,41 +55,45 @@ lpat_depth_is x =
     let d : depth_of_pat (make_pat x []) ≡ max (depth_of_lpat x) 0 + 0 = pat_deep (record { first = x; rest = [] }) in
     omega (arith, p, d, pat_depth_is (make_pat x []))
 
--- tokens
+-- the tokens of a name with arguments
 pub prefix_spelled : (p : PrefixParts) → spelling_fun_lhs (make_prefix p) ≡ var_tokens p.0 ++ spelling_apats p.1
 prefix_spelled p =
     ap spelling_fun_lhs (sym (f.rolls-Prefix p.0 p.1.0 p.1.1))
     ∙ fold-roll-FunLhsTree Ts fun_lhs_tokens (FunLhsTree-F.Prefix p.0 p.1.0 p.1.1)
 
+-- the tokens of an operator between operands
 pub infix_spelled : (p : InfixParts) → spelling_fun_lhs (make_infix p) ≡ spelling_lpat p.0
     ++ (varop_tokens p.1.0 ++ spelling_lpat p.1.1)
 infix_spelled p =
     ap spelling_fun_lhs (sym (f.rolls-Infix p.0 p.1.0 p.1.1))
     ∙ fold-roll-FunLhsTree Ts fun_lhs_tokens (FunLhsTree-F.Infix p.0 p.1.0 p.1.1)
 
+-- the tokens of brackets with arguments
 pub wrapped_spelled : (p : WrappedParts) → spelling_fun_lhs (make_wrapped p) ≡ wrapped.tokens p
 wrapped_spelled p =
     ap spelling_fun_lhs (sym (f.rolls-Parens p.0 p.1.0 p.1.1))
     ∙ fold-roll-FunLhsTree Ts fun_lhs_tokens (FunLhsTree-F.Parens p.0 p.1.0 p.1.1)
     ∙ ap (λ l. t.LeftParen ∷ l) (sym (append_assoc (spelling_fun_lhs p.0) (t.RightParen ∷ []) (spelling_apats p.1)))
 
--- well-formedness
+-- whether a name with arguments is well formed
 pub prefix_is : (p : PrefixParts) → is_fun_lhs (make_prefix p) ≡ are_apats p.1
 prefix_is p =
     ap is_fun_lhs (sym (f.rolls-Prefix p.0 p.1.0 p.1.1))
     ∙ fold-roll-FunLhsTree Bool fun_lhs_formed (FunLhsTree-F.Prefix p.0 p.1.0 p.1.1)
 
+-- whether an operator between operands is well formed
 pub infix_is : (p : InfixParts) → is_fun_lhs (make_infix p) ≡ is_lpat p.0 && is_lpat p.1.1
 infix_is p =
     ap is_fun_lhs (sym (f.rolls-Infix p.0 p.1.0 p.1.1))
     ∙ fold-roll-FunLhsTree Bool fun_lhs_formed (FunLhsTree-F.Infix p.0 p.1.0 p.1.1)
 
+-- whether brackets with arguments are well formed
 pub wrapped_is : (p : WrappedParts) → is_fun_lhs (make_wrapped p) ≡ is_fun_lhs p.0 && are_apats p.1
 wrapped_is p =
     ap is_fun_lhs (sym (f.rolls-Parens p.0 p.1.0 p.1.1))
     ∙ fold-roll-FunLhsTree Bool fun_lhs_formed (FunLhsTree-F.Parens p.0 p.1.0 p.1.1)
 
--- depth
+-- the depth of a name with arguments
 prefix_deep : (p : PrefixParts) → functions.deep (make_prefix p) ≡ max 0 (depth_of_apats p.1)
 prefix_deep p =
     let e : functions.deep (make_prefix p) ≡ max (extent_of_apat p.1.0).depth
@@ -96,6 +102,7 @@ prefix_deep p =
     ∙ ap depth_of (fold-roll-FunLhsTree Extent fun_lhs_extent (FunLhsTree-F.Prefix p.0 p.1.0 p.1.1)) in
     omega (arith, e, apat_depth_is p.1.0, deepest_apats p.1.1)
 
+-- the depth of an operator between operands
 infix_deep : (p : InfixParts) → functions.deep (make_infix p) ≡ max (depth_of_lpat p.0) (max 0 (depth_of_lpat p.1.1))
 infix_deep p =
     let e : functions.deep (make_infix p) ≡ max (extent_of_lpat p.0).depth (extent_of_lpat p.1.1).depth =
@@ -103,6 +110,7 @@ infix_deep p =
     ∙ ap depth_of (fold-roll-FunLhsTree Extent fun_lhs_extent (FunLhsTree-F.Infix p.0 p.1.0 p.1.1)) in
     omega (arith, e, lpat_depth_is p.0, lpat_depth_is p.1.1)
 
+-- the depth of brackets with arguments
 wrapped_deep : (p : WrappedParts) → functions.deep (make_wrapped p) ≡ max (functions.deep p.0 + 1) (depth_of_apats p.1)
 wrapped_deep p =
     let e : functions.deep (make_wrapped p) ≡ max (max ((extent_of_fun_lhs p.0).depth + 1) (extent_of_apat p.1.0).depth)
@@ -124,6 +132,7 @@ layer_cases (FunLhsTree-F.Parens x a ps) h =
     let same = f.rolls-Parens x a ps in
     of_two (x, (a, ps)) same (sym (wrapped_is (x, (a, ps))) ∙ ap is_fun_lhs (sym same) ∙ h)
 
+-- a well formed left side of a function is one of the three
 pub function_cases : (x : FunLhsTree) → is_fun_lhs x ≡ true → Side bare wrapped make_bare make_wrapped x
 function_cases x h =
     subst (Side bare wrapped make_bare make_wrapped) (roll-out-FunLhsTree x)
@@ -171,6 +180,7 @@ starts_layer (FunLhsTree-F.Infix l op r) =
 starts_layer (FunLhsTree-F.Parens x a ps) =
     ap starts_pat (fold-roll-FunLhsTree Ts fun_lhs_tokens (FunLhsTree-F.Parens x a ps))
 
+-- each left side of a function begins as a pattern
 pub function_starts : (x : FunLhsTree) → starts_pat (spelling_fun_lhs x) ≡ true
 function_starts x =
     subst (λ y. starts_pat (spelling_fun_lhs y) ≡ true) (roll-out-FunLhsTree x) (starts_layer (out-FunLhsTree x))

@@ -1,9 +1,10 @@
 -- The returns of the reader of left sides, over plain variables.
-use Rattle.std.proofs.Common.{◌≡◌, ℕ, Bool, true, false, List, [], ◌∷◌, ◌++◌, length, refl, sym, ap, ◌∙◌}
-use Rattle.std.specs.Prelude.{min, ◌||◌, Option}
+use Rattle.std.proofs.Common.{◌≡◌, ℕ, Bool, true, false, length, refl, sym, ◌∙◌}
+use Rattle.std.specs.Prelude.{◌||◌, Option}
 use Rattle.hs_forms.specs.Reading.{begins}
 use Rattle.hs_forms.specs.Answers.{Rejects}
 use Rattle.hs_forms.specs.declared.fault.Fault.{Fault}
+use Rattle.hs_forms.specs.declared.fault.Fault.TheVariants.{At, NoMemory}
 use Rattle.hs_forms.proofs.FormLemmas.{begins_same}
 use Rattle.hs_forms.proofs.LimitLemmas.{or_left, or_right}
 use Rattle.hs_tokens.specs.Terminals.{is_var_sym, starts_qconop}
@@ -13,9 +14,9 @@ use Rattle.hs_trees.specs.declared.patterns.PatTree.{PatTree}
 use Rattle.hs_modules.specs.declared.expressions.FunLhsTree.{FunLhsTree}
 use Rattle.hs_expression_forms.specs.Trees.{within, Took, Failed}
 use Rattle.hs_expression_forms.specs.Expressions.{pats}
-use Rattle.hs_declaration_forms.proofs.MergeLemmas.{Merges, Apart, Side, of_one, of_two, merged_one, merged_two}
+use Rattle.hs_declaration_forms.proofs.MergeLemmas.{Merges, Side, of_one, of_two, merged_one, merged_two}
 use Rattle.hs_declaration_forms.proofs.MergeLemmas.{merged_fails, wider_took, wider_failed, stands_behind}
-use Rattle.hs_left_forms.specs.Lefts.{lpat_goes, left_goes, functions, patterns, left_sides}
+use Rattle.hs_left_forms.specs.Lefts.{later, lpat_goes, left_goes, functions, patterns, left_sides}
 use Rattle.hs_left_forms.specs.declared.left_side.LeftSide.{LeftSide}
 use Rattle.hs_left_forms.specs.declared.left_side.LeftSide.TheVariants as v_left
 use Rattle.hs_left_forms.proofs.ApartLemmas.{no_pattern}
@@ -38,9 +39,11 @@ lefts_merge = record {
     cases (v_left.Function x) h = of_one x refl h
     cases (v_left.Pattern x) h = of_two x refl h
 
+-- neither is true
 both_false : (a b : Bool) → a ≡ false → b ≡ false → a || b ≡ false
 both_false a b p q = λ i. p i || q i
 
+-- what goes on no left side goes on no pattern
 pat_quiet : (x : PatTree) (k : Terminal) → left_goes k ≡ false → pats.extends x k ≡ false
 pat_quiet x k e =
     both_false (lpat_goes k) (starts_qconop k) (or_left (lpat_goes k) _ e)
@@ -57,9 +60,11 @@ module _ (limit : Option ℕ) (ts : Ts) where
   pattern_took x rest m acc =
       wider_took pats patterns (λ x. refl) (λ x. refl) (λ x. refl) pat_quiet limit ts x rest m acc
 
+  -- no pattern stands here
   pub pattern_failed : (e : Fault) → Failed pats limit ts e → Failed patterns limit ts e
   pattern_failed e r = wider_failed pats patterns (λ x. refl) (λ x. refl) (λ x. refl) pat_quiet limit ts e r
 
+  -- behind a pattern stands what goes on a left side
   pub pattern_goes : (x : PatTree) (rest : Ts) (m : ℕ) → Took pats limit ts x rest m →
       begins left_goes rest ≡ true → Rejects (within patterns limit) ts (length rest)
   pattern_goes x rest m acc on =
@@ -73,6 +78,7 @@ module _ (limit : Option ℕ) (ts : Ts) where
       (λ s p after same good quiet e.
       no_pattern x acc.reads.good.0 p s after good (begins_same left_goes rest s same ∙ off) quiet e)
 
+  -- a pattern as a left side
   pub left_pattern : (x : PatTree) (rest : Ts) (m : ℕ) → Took patterns limit ts x rest m →
       begins left_goes rest ≡ false → Took left_sides limit ts (v_left.Pattern x) rest m
   left_pattern x rest m acc off =
@@ -80,7 +86,9 @@ module _ (limit : Option ℕ) (ts : Ts) where
       (λ s y after same good quiet e.
       no_pattern y good x after s acc.reads.good.0 quiet (begins_same left_goes rest s same ∙ off) (sym e))
 
-  pub left_fails : (l n : ℕ) → Rejects (within functions limit) ts l → Rejects (within patterns limit) ts n →
-      Rejects (within left_sides limit) ts (min l n)
-  left_fails l n r q =
+  -- neither the left side of a function stands here nor a pattern
+  pub left_fails : (l : ℕ) → Rejects (within functions limit) ts l → (e : Fault) → Failed patterns limit ts e →
+      Failed left_sides limit ts (later l e)
+  left_fails l r (At n) q =
       merged_fails functions patterns left_sides v_left.Function v_left.Pattern lefts_merge limit ts l n r q
+  left_fails l r NoMemory q = tt

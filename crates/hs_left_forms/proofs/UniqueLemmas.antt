@@ -1,12 +1,12 @@
 -- At most one left side has given tokens.
-use Rattle.std.proofs.Common.{◌≡◌, ℕ, zero, suc, ◌+◌, ◌≤◌, Bool, true, false, List, [], ◌∷◌, ◌++◌, length, refl, sym, ap}
-use Rattle.std.proofs.Common.{◌∙◌, subst, arith, append_assoc, length-append, le_refl, inl, inr, ◌⊎◌}
-use Rattle.std.specs.Prelude.{◌&&◌, None}
+use Rattle.std.proofs.Common.{◌≡◌, ℕ, zero, suc, ◌≤◌, true, [], ◌∷◌, ◌++◌, length, refl, sym, ap}
+use Rattle.std.proofs.Common.{◌∙◌, arith, append_assoc, length-append, le_refl, inl, inr}
+use Rattle.std.specs.Prelude.{None}
 use Rattle.hs_forms.specs.Whole.{Spells}
 use Rattle.hs_forms.proofs.FormLemmas.{uncons}
 use Rattle.hs_forms.proofs.LimitLemmas.{and_left, and_right}
 use Rattle.hs_tokens.specs.declared.terminal.Terminal.TheVariants as t
-use Rattle.hs_trees.specs.Patterns.{Ts, var_tokens, spelling_apats, spelling_lpat, spelling_pat, is_lpat, is_pat, pat_form}
+use Rattle.hs_trees.specs.Patterns.{Ts, var_tokens, spelling_apats, spelling_lpat, spelling_pat, is_lpat, is_pat}
 use Rattle.hs_trees.specs.declared.patterns.VarTree.{VarTree}
 use Rattle.hs_trees.specs.declared.patterns.VarTree.TheVariants as v
 use Rattle.hs_trees.specs.declared.patterns.PatTree.{PatTree}
@@ -20,7 +20,7 @@ use Rattle.hs_modules.specs.declared.expressions.FunLhsTree.{FunLhsTree}
 use Rattle.hs_expression_forms.specs.Trees.{within}
 use Rattle.hs_declaration_forms.proofs.MergeLemmas.{Side, of_one, of_two}
 use Rattle.hs_left_forms.specs.Lefts.{PrefixParts, InfixParts, WrappedParts, prefixes, infixes, bare, wrapped}
-use Rattle.hs_left_forms.specs.Lefts.{functions, left_sides}
+use Rattle.hs_left_forms.specs.Lefts.{left_sides}
 use Rattle.hs_left_forms.specs.declared.left_side.LeftSide.{LeftSide}
 use Rattle.hs_left_forms.specs.declared.left_side.LeftSide.TheVariants as v_left
 use Rattle.hs_left_forms.proofs.LayerLemmas.{make_prefix, make_infix, make_wrapped, make_bare, prefix_spelled}
@@ -28,20 +28,21 @@ use Rattle.hs_left_forms.proofs.LayerLemmas.{infix_spelled, wrapped_spelled, fun
 use Rattle.hs_left_forms.proofs.ApartLemmas.{Quiet, quiet_lpat, one_lpat, one_apats, varop_quiet, wrapped_split}
 use Rattle.hs_left_forms.proofs.ApartLemmas.{prefix_no_infix, prefix_no_wrapped, infix_no_wrapped, no_pattern}
 
--- names and operators
+-- two names of variables with the same tokens are one
 one_var : (x y : VarTree) (s r : Ts) → var_tokens x ++ s ≡ var_tokens y ++ r → (y ≡ x) × (r ≡ s)
 one_var (v.Id n) (v.Id m) s r e = let same : m ≡ n = cc in (ap v.Id same, cc)
 one_var (v.Id n) (v.Sym m) s r e = absurd cc
 one_var (v.Sym n) (v.Id m) s r e = absurd cc
 one_var (v.Sym n) (v.Sym m) s r e = let same : m ≡ n = cc in (ap v.Sym same, cc)
 
+-- two variable operators with the same tokens are one
 one_varop : (x y : VarOpTree) (s r : Ts) → varop_tokens x ++ s ≡ varop_tokens y ++ r → (y ≡ x) × (r ≡ s)
 one_varop (o.Sym n) (o.Sym m) s r e = let same : m ≡ n = cc in (ap o.Sym same, cc)
 one_varop (o.Sym n) (o.Quoted m) s r e = absurd cc
 one_varop (o.Quoted n) (o.Sym m) s r e = absurd cc
 one_varop (o.Quoted n) (o.Quoted m) s r e = let same : m ≡ n = cc in (ap o.Quoted same, cc)
 
--- the three kinds
+-- two names with arguments and the same tokens are one
 one_prefix : (f h : PrefixParts) (s r : Ts) → prefixes.formed f ≡ true → prefixes.formed h ≡ true → Quiet s → Quiet r →
     prefixes.tokens f ++ s ≡ prefixes.tokens h ++ r → (h ≡ f) × (r ≡ s)
 one_prefix f h s r is it quiet_s quiet_r e =
@@ -52,10 +53,12 @@ one_prefix f h s r is it quiet_s quiet_r e =
     let whole : h ≡ f = λ i. (name.0 i, args.0 i) in
     (whole, args.1)
 
+-- an operator between operands, with what stands behind it
 infix_split : (f : InfixParts) (s : Ts) → infixes.tokens f ++ s ≡ spelling_lpat f.0 ++ (varop_tokens f.1.0
     ++ (spelling_lpat f.1.1 ++ s))
 infix_split f s = simp append_assoc
 
+-- two operators between operands with the same tokens are one
 one_infix : (f h : InfixParts) (s r : Ts) → infixes.formed f ≡ true → infixes.formed h ≡ true → Quiet s → Quiet r →
     infixes.tokens f ++ s ≡ infixes.tokens h ++ r → (h ≡ f) × (r ≡ s)
 one_infix f h s r is it quiet_s quiet_r e =
@@ -74,6 +77,7 @@ Alone x =
     (y : FunLhsTree) (s r : Ts) → is_fun_lhs y ≡ true → Quiet s → Quiet r →
     spelling_fun_lhs x ++ s ≡ spelling_fun_lhs y ++ r → (y ≡ x) × (r ≡ s)
 
+-- two left sides in brackets with the same tokens are one
 one_wrapped : (f h : WrappedParts) → Alone f.0 → (s r : Ts) → wrapped.formed f ≡ true → wrapped.formed h ≡ true →
     Quiet s → Quiet r → wrapped.tokens f ++ s ≡ wrapped.tokens h ++ r → (h ≡ f) × (r ≡ s)
 one_wrapped f h alone s r is it quiet_s quiet_r e =
@@ -95,12 +99,14 @@ one_function_by : (n : ℕ) (x y : FunLhsTree) → Side bare wrapped make_bare m
     spelling_fun_lhs x ++ s ≡ spelling_fun_lhs y ++ r → (y ≡ x) × (r ≡ s)
 one_function_by n x y (of_one (inl f) same is) (of_one (inl h) same' it) short s r quiet_s quiet_r e =
     let found = one_prefix f h s r is it quiet_s quiet_r
-    (parts_for _ _ _ _ s r (ap spelling_fun_lhs same ∙ prefix_spelled f) (ap spelling_fun_lhs same' ∙ prefix_spelled h) e)
+    (parts_for _ _ _ _ s r (ap spelling_fun_lhs same ∙ prefix_spelled f)
+    (ap spelling_fun_lhs same' ∙ prefix_spelled h) e)
     in
     (same' ∙ ap make_prefix found.0 ∙ sym same, found.1)
 one_function_by n x y (of_one (inl f) same is) (of_one (inr h) same' it) short s r quiet_s quiet_r e =
     absurd (prefix_no_infix f h s r it
-    (parts_for _ _ _ _ s r (ap spelling_fun_lhs same ∙ prefix_spelled f) (ap spelling_fun_lhs same' ∙ infix_spelled h) e))
+    (parts_for _ _ _ _ s r (ap spelling_fun_lhs same ∙ prefix_spelled f)
+    (ap spelling_fun_lhs same' ∙ infix_spelled h) e))
 one_function_by n x y (of_one (inl f) same is) (of_two h same' it) short s r quiet_s quiet_r e =
     absurd (prefix_no_wrapped f h s r
     (parts_for _ _ _ _ s r (ap spelling_fun_lhs same ∙ prefix_spelled f)
@@ -144,11 +150,12 @@ one_function_by (suc n) x y (of_two f same is) (of_two h same' it) short s r qui
     (ap spelling_fun_lhs same' ∙ wrapped_spelled h) e) in
     (same' ∙ ap make_wrapped found.0 ∙ sym same, found.1)
 
+-- Two left sides of functions, before what goes on none, are one if their tokens are the same.
 pub one_function : (x y : FunLhsTree) (s r : Ts) → is_fun_lhs x ≡ true → is_fun_lhs y ≡ true → Quiet s → Quiet r →
     spelling_fun_lhs x ++ s ≡ spelling_fun_lhs y ++ r → (y ≡ x) × (r ≡ s)
 one_function x y s r is it quiet_s quiet_r e =
-    one_function_by (length (spelling_fun_lhs x)) x y (function_cases x is) (function_cases y it) (le_refl _) s r quiet_s
-    quiet_r e
+    one_function_by (length (spelling_fun_lhs x)) x y (function_cases x is) (function_cases y it) (le_refl _) s r
+    quiet_s quiet_r e
 
 -- no list of tokens is both a function's left side and a pattern
 pub no_both : (x : FunLhsTree) (p : PatTree) → is_fun_lhs x ≡ true → is_pat p ≡ true →
@@ -156,8 +163,8 @@ pub no_both : (x : FunLhsTree) (p : PatTree) → is_fun_lhs x ≡ true → is_pa
 no_both x p is it e = no_pattern x is p [] [] it refl refl (ap (λ l. l ++ []) e)
 
 -- at most one left side has given tokens
-pub one_left : (ts : Ts) (x y : LeftSide) → Spells (within left_sides None) x ts → Spells (within left_sides None) y ts →
-    y ≡ x
+pub one_left : (ts : Ts) (x y : LeftSide) → Spells (within left_sides None) x ts →
+    Spells (within left_sides None) y ts → y ≡ x
 one_left ts (v_left.Function x) (v_left.Function y) one two =
     ap v_left.Function (one_function x y [] [] one.1.0 two.1.0 refl refl (ap (λ l. l ++ []) (sym one.0 ∙ two.0))).0
 one_left ts (v_left.Function x) (v_left.Pattern p) one two = absurd (no_both x p one.1.0 two.1.0 (sym one.0 ∙ two.0))

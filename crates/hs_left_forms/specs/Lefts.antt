@@ -1,9 +1,11 @@
--- The left sides of declarations (Haskell 2010 Report, sections 4.4.3.1 and 4.4.3.2): that of a function, or a pattern. A
--- variable alone is a pattern.
-use Rattle.std.specs.Prelude.{◌≡◌, ℕ, ◌+◌, max, Bool, true, false, ◌&&◌, ◌||◌, List, [], ◌∷◌, ◌++◌, ◌⊎◌}
+-- The left sides of declarations (Haskell 2010 Report, sections 4.4.3.1 and 4.4.3.2): that of a function, or a pattern.
+-- A variable alone is a pattern.
+use Rattle.std.specs.Prelude.{ℕ, ◌+◌, Bool, true, false, ◌||◌, List, [], ◌∷◌, ◌++◌, ◌⊎◌, min}
 use Rattle.hs_forms.specs.Reading.{Form}
 use Rattle.hs_forms.specs.Answers.{Sort}
 use Rattle.hs_forms.specs.Forms.{side}
+use Rattle.hs_forms.specs.declared.fault.Fault.{Fault}
+use Rattle.hs_forms.specs.declared.fault.Fault.TheVariants.{At, NoMemory}
 use Rattle.hs_tokens.specs.Terminals.{is_at, is_var_sym, starts_qconop}
 use Rattle.hs_tokens.specs.declared.terminal.Terminal.{Terminal}
 use Rattle.hs_tokens.specs.declared.terminal.Terminal.TheVariants as t
@@ -43,12 +45,15 @@ starts_varop _ = false
 abbrev pub varop_form : Form Terminal VarOpTree
 varop_form = record { tokens = varop_tokens; Good = λ x. Unit {0}; extends = λ x k. false }
 
+-- operators with their depth, which is none
 abbrev pub varop_sort : Sort Terminal VarOpTree
 varop_sort = flat varop_form
 
+-- operators as a kind of trees
 abbrev pub varops : Trees Terminal VarOpTree
 varops = record { tokens = varop_tokens; formed = λ x. true; deep = λ x. 0; extends = λ x k. false }
 
+-- `lpat`: an operand
 abbrev pub lpats : Trees Terminal LPatTree
 lpats = record { tokens = spelling_lpat; formed = is_lpat; deep = depth_of_lpat; extends = λ x k. lpat_goes k }
 
@@ -69,9 +74,11 @@ on_the_left a = record { tokens = a.tokens; formed = a.formed; deep = a.deep; ex
 abbrev pub PrefixParts : Type 0
 PrefixParts = VarTree × APats
 
+-- a name and its arguments
 abbrev pub prefix_rows : Trees Terminal PrefixParts
 prefix_rows = row vars apats
 
+-- the same as left sides
 abbrev pub prefixes : Trees Terminal PrefixParts
 prefixes = on_the_left prefix_rows
 
@@ -79,9 +86,15 @@ prefixes = on_the_left prefix_rows
 abbrev pub InfixParts : Type 0
 InfixParts = LPatTree × (VarOpTree × LPatTree)
 
-abbrev pub infix_rows : Trees Terminal InfixParts
-infix_rows = row lpats (row varops lpats)
+-- an operator and the operand behind it
+abbrev pub behinds : Trees Terminal (VarOpTree × LPatTree)
+behinds = row varops lpats
 
+-- an operand, an operator and an operand
+abbrev pub infix_rows : Trees Terminal InfixParts
+infix_rows = row lpats behinds
+
+-- the same as left sides
 abbrev pub infixes : Trees Terminal InfixParts
 infixes = on_the_left infix_rows
 
@@ -107,9 +120,11 @@ bracketed = record {
 abbrev pub WrappedParts : Type 0
 WrappedParts = FunLhsTree × APats
 
+-- brackets and the arguments behind them
 abbrev pub wrapped_rows : Trees Terminal WrappedParts
 wrapped_rows = row bracketed apats
 
+-- the same as left sides
 abbrev pub wrapped : Trees Terminal WrappedParts
 wrapped = on_the_left wrapped_rows
 
@@ -121,14 +136,17 @@ bare = together prefixes infixes
 abbrev pub patterns : Trees Terminal PatTree
 patterns = on_the_left pats
 
+-- the tokens of a left side
 abbrev pub left_tokens : LeftSide → List Terminal
 left_tokens (v_left.Function x) = spelling_fun_lhs x
 left_tokens (v_left.Pattern x) = spelling_pat x
 
+-- whether a left side is well formed
 abbrev pub is_left_side : LeftSide → Bool
 is_left_side (v_left.Function x) = is_fun_lhs x
 is_left_side (v_left.Pattern x) = is_pat x
 
+-- the depth of a left side: brackets count
 abbrev pub depth_of_left_side : LeftSide → ℕ
 depth_of_left_side (v_left.Function x) = (extent_of_fun_lhs x).depth
 depth_of_left_side (v_left.Pattern x) = depth_of_pat x
@@ -141,3 +159,8 @@ left_sides = record {
   deep = depth_of_left_side;
   extends = λ x k. left_goes k;
 }
+
+-- of two failures from one place the later, where the first left so many tokens
+abbrev pub later : ℕ → Fault → Fault
+later left (At right) = At (min left right)
+later left NoMemory = NoMemory

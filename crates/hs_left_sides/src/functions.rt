@@ -3,10 +3,11 @@ ghost use Rattle.std.specs.Prelude.{◌≡◌, ◌∷◌, max};
 ghost use Rattle.hs_forms.specs.Limits.{Within};
 ghost use Rattle.hs_forms.specs.Answers.{Rejects};
 ghost use Rattle.hs_tokens.specs.declared.terminal.Terminal.TheVariants.{LeftParen};
-ghost use Rattle.hs_readers.specs.Answers.{Answers};
+ghost use Rattle.hs_readers.specs.Answers.{Answers, Has};
 ghost use Rattle.hs_expression_forms.specs.Trees.{sort_of, within};
-ghost use Rattle.hs_left_forms.specs.Lefts.{prefixes, infixes, bare, bracketed, wrapped, functions};
+ghost use Rattle.hs_left_forms.specs.Lefts.{lpats, prefixes, behinds, bare, bracketed, wrapped, functions};
 
+use crate::leaf::later;
 use crate::operators::read_varop;
 use hs_forms::Fault;
 use hs_headers::read_var;
@@ -35,28 +36,52 @@ fn read_prefix<'a>(
     })
 }
 
-/// `lpat varop lpat`
-fn read_infix<'a>(
+/// `varop lpat`, behind an operand.
+fn read_behind<'a>(
     alloc: Global,
     tokens: &'a [Terminal],
     limit: Option<usize>,
-) -> Result<Read<'a, (LPatTree, (VarOpTree, LPatTree))>, Fault>
-    ensures { Answers (sort_of infixes limit) tokens.now result }
+) -> Result<Read<'a, (VarOpTree, LPatTree)>, Fault>
+    ensures { Answers (sort_of behinds limit) tokens.now result }
 {
-    let left = read_lpat(alloc, tokens, limit)?;
-    let op = read_varop(alloc, left.rest)?;
-    let right = read_lpat(alloc, op.rest, limit)?;
-    let behind = (op.tree, right.tree);
-    let tree = (left.tree, behind);
+    let op = read_varop(alloc, tokens)?;
+    let operand = read_lpat(alloc, op.rest, limit)?;
+    let tree = (op.tree, operand.tree);
     Ok(Read {
         tree,
-        rest: right.rest,
-        depth: left.depth.max(right.depth),
+        rest: operand.rest,
+        depth: operand.depth,
     })
 }
 
+/// A left side that begins with an operand, where one with a name was refused with so many tokens left. No left side in
+/// brackets begins so, since the brackets of an operand hold patterns.
+fn read_operated<'a>(
+    alloc: Global,
+    tokens: &'a [Terminal],
+    limit: Option<usize>,
+    left: usize,
+    operand: Read<'a, LPatTree>,
+) -> Result<Read<'a, FunLhsTree>, Fault>
+    requires named { Rejects (within prefixes limit) tokens.now left }
+    requires operand { Has (sort_of lpats limit) tokens.now operand }
+    ensures { Answers (sort_of functions limit) tokens.now result }
+{
+    match read_behind(alloc, operand.rest, limit) {
+        Ok(behind) => {
+            let (op, second) = behind.tree;
+            Ok(Read {
+                tree: FunLhsTree::Infix(operand.tree, op, second),
+                rest: behind.rest,
+                depth: operand.depth.max(behind.depth),
+            })
+        }
+        Err(fault) => Err(later(left, fault)),
+    }
+}
+
 /// The left side of a function: a name and its arguments, an operator between two operands, or such a left side in
-/// brackets with more arguments. No token tells the last two apart before the brackets are closed.
+/// brackets with more arguments. What begins with an operand has no such brackets, so they are read where none does.
 #[cycle(functions)]
 pub fn read_function<'a>(
     alloc: Global,
@@ -80,7 +105,7 @@ pub fn read_function<'a>(
     }
 }
 
-/// A left side that begins with no name, where one with a name was refused with so many tokens left.
+/// A left side without a name before its arguments, where one with a name was refused with so many tokens left.
 #[cycle(functions)]
 fn read_unnamed<'a>(
     alloc: Global,
@@ -91,16 +116,8 @@ fn read_unnamed<'a>(
     requires { Rejects (within prefixes limit) tokens.now left }
     ensures { Answers (sort_of functions limit) tokens.now result }
 {
-    match read_infix(alloc, tokens, limit) {
-        Ok(infix) => {
-            let (first, behind) = infix.tree;
-            let (op, second) = behind;
-            Ok(Read {
-                tree: FunLhsTree::Infix(first, op, second),
-                rest: infix.rest,
-                depth: infix.depth,
-            })
-        }
+    match read_lpat(alloc, tokens, limit) {
+        Ok(operand) => read_operated(alloc, tokens, limit, left, operand),
         Err(Fault::NoMemory) => Err(Fault::NoMemory),
         Err(Fault::At(right)) => read_last(alloc, tokens, limit, left.min(right)),
     }
@@ -134,8 +151,7 @@ fn read_last<'a>(
                 depth: read.depth,
             })
         }
-        Err(Fault::NoMemory) => Err(Fault::NoMemory),
-        Err(Fault::At(right)) => Err(Fault::At(left.min(right))),
+        Err(fault) => Err(later(left, fault)),
     }
 }
 

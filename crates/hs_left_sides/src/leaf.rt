@@ -1,8 +1,9 @@
 //! Looks at the next terminal of a left side.
 ghost use Rattle.std.specs.Prelude.{◌≡◌};
 ghost use Rattle.hs_forms.specs.Reading.{begins};
-ghost use Rattle.hs_left_forms.specs.Lefts.{left_goes};
+ghost use Rattle.hs_left_forms.specs.Lefts.{later, left_goes};
 
+use hs_forms::Fault;
 use hs_tokens::Terminal;
 
 /// Whether a token stands here by which a left side may go on: one that begins an argument, `@`, or an operator.
@@ -27,5 +28,15 @@ pub fn goes_on_left(tokens: &[Terminal]) -> bool
             | Terminal::VarSym(_),
         ) => true,
         _ => false,
+    }
+}
+
+/// Of two failures from one place the later, where the first left so many tokens.
+pub fn later(left: usize, fault: Fault) -> Fault
+    ensures { result ≡ later left fault }
+{
+    match fault {
+        Fault::At(right) => Fault::At(left.min(right)),
+        Fault::NoMemory => Fault::NoMemory,
     }
 }

@@ -15,7 +15,7 @@ ghost use Rattle.hs_expression_forms.specs.Trees.{sort_of, within};
 ghost use Rattle.hs_left_forms.specs.Lefts.{functions, patterns, left_sides, left_goes};
 
 use crate::functions::read_function;
-use crate::leaf::goes_on_left;
+use crate::leaf::{goes_on_left, later};
 use hs_forms::Fault;
 use hs_left_forms::LeftSide;
 use hs_modules::FunLhsTree;
@@ -72,15 +72,14 @@ fn read_pattern_side<'a>(
             rest: pattern.rest,
             depth: pattern.depth,
         }),
-        Err(Fault::NoMemory) => Err(Fault::NoMemory),
-        Err(Fault::At(right)) => Err(Fault::At(left.min(right))),
+        Err(fault) => Err(later(left, fault)),
     }
 }
 
 /// The left side of a declaration: that of a function, or a pattern. A variable alone is a pattern.
 ///
-/// No token tells them apart: `(x + y) z` begins as `(x : y)` does. Both are read; the tree is the one that was read, and of
-/// two refusals the later stands. A token by which a left side may go on, and by which this one does not, is refused.
+/// No token tells them apart: `(x + y) z` begins as `(x : y)` does. Both are read; the tree is the one that was read,
+/// and of two refusals the later stands. A token by which left sides go on, but not this one, is refused.
 pub fn read_left_side<'a>(
     alloc: Global,
     tokens: &'a [Terminal],

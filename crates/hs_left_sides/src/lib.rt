@@ -1,5 +1,5 @@
-//! The reader of left sides of declarations (Haskell 2010 Report, sections 4.4.3.1 and 4.4.3.2): those of functions, and
-//! patterns.
+//! The reader of left sides of declarations (Haskell 2010 Report, sections 4.4.3.1 and 4.4.3.2): those of functions,
+//! and patterns.
 #![tactic(auto)]
 
 mod functions;

@@ -2,16 +2,13 @@
 use Rattle.std.proofs.Common.{◌∷◌, ◌∙◌, sym, true≢false, arith}
 use Rattle.std.proofs.lemmas.Result.{err_from_is_err_and}
 use Rattle.hs_tokens.specs.declared.terminal.Terminal.TheVariants.{LeftParen}
-use Rattle.hs_left_forms.proofs.FunctionLemmas.{function_prefix, function_infix, function_bracketed, no_bracket, no_room}
-use Rattle.hs_left_forms.proofs.FunctionLemmas.{bare_fails, brackets_fail, brackets_failed, wrapped_failed, wrapped_took}
+use Rattle.hs_left_forms.proofs.FunctionLemmas.{function_prefix, function_bracketed, no_bracket, no_room}
+use Rattle.hs_left_forms.proofs.FunctionLemmas.{operand_fails, brackets_fail, brackets_failed, wrapped_failed, wrapped_took}
 use Rattle.hs_left_forms.proofs.FunctionLemmas.{inner_failed, bracket_missed, bracketed_took}
 use Rattle.hs_left_sides.proofs.functions.+functions.Goals as goal
 
 pub read_function-returns-in-Ok : goal.read_function-returns-in-Ok
 read_function-returns-in-Ok t c = function_prefix c.args.limit c.args.tokens.now _ _ _ c.in-Ok.ensures
-
-pub read_unnamed-returns-in-Ok : goal.read_unnamed-returns-in-Ok
-read_unnamed-returns-in-Ok t c = function_infix c.args.limit c.args.tokens.now _ _ _ c.in-Ok.ensures
 
 pub read_last-returns-in_default : goal.read_last-returns-in_default
 read_last-returns-in_default t c =
@@ -25,18 +22,17 @@ read_last-returns-then-not-allows t c =
 pub read_unnamed-read_last-requires : goal.read_unnamed-read_last-requires
 read_unnamed-read_last-requires t c =
     let r = rw c.in-Err-At.field-0-is at c.in-Err-At.ensures in
-    (omega arith, rw c.min.ensures (bare_fails c.args.limit c.args.tokens.now c.args.left _ c.requires r))
+    (omega arith, rw c.min.ensures (operand_fails c.args.limit c.args.tokens.now c.args.left _ c.requires r))
 
 pub read_last-returns-in_ok-inner-in-Ok : goal.read_last-returns-in_ok-inner-in-Ok
 read_last-returns-in_ok-inner-in-Ok t c =
     rw c.in_ok-inner-in-Ok.ensures (function_bracketed c.args.limit c.args.tokens.now _ c.in-Some.ensures _ _ _
     c.in-Ok.ensures)
 
-pub read_last-returns-in-Err-At : goal.read_last-returns-in-Err-At
-read_last-returns-in-Err-At t c =
-    let r = rw c.in-Err-At.field-0-is at c.in-Err-At.ensures in
-    rw (c.min.ensures, c.in-Err-At.field-0-is) (brackets_fail c.args.limit c.args.tokens.now _ c.in-Some.ensures
-    c.args.left _ c.requires r)
+pub read_last-returns-in-Err : goal.read_last-returns-in-Err
+read_last-returns-in-Err t c =
+    rw c.later.ensures (brackets_fail c.args.limit c.args.tokens.now _ c.in-Some.ensures c.args.left c.requires _
+    c.in-Err.ensures)
 
 pub read_wrapped-returns-in_err-inner : goal.read_wrapped-returns-in_err-inner
 read_wrapped-returns-in_err-inner t c =
