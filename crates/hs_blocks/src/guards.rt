@@ -1,0 +1,239 @@
+//! Guards and guarded expressions (Haskell 2010 Report, sections 3.13 and 4.4.3.1), of operands that a reader is given for.
+ghost use Rattle.std.specs.Prelude.{◌↔◌, IsTrue, max, map, ◌≡◌, ◌∷◌, ◌<◌, ◌≤◌, ◌+◌, ◌^◌, ℕ, Option, IfOk, length, true, false};
+ghost use Rattle.hs_forms.specs.Reading.{begins};
+ghost use Rattle.hs_forms.specs.Limits.{deepest};
+ghost use Rattle.hs_tokens.specs.Terminals.{is_comma};
+ghost use Rattle.hs_readers.specs.Answers.{Answers, item_sort};
+ghost use Rattle.hs_expression_forms.specs.Trees.{sort_of};
+ghost use Rattle.hs_expression_forms.specs.Expressions.{operands};
+ghost use Rattle.hs_block_forms.specs.Blocks.{binds, gdas, gds, guard_lists, guards, guards_fit, is_bar, tests};
+ghost use Rattle.hs_block_forms.proofs.GuardLemmas.{guards_chain, past};
+
+use crate::ends::ends_in_type;
+use crate::leaf::{after_equals, after_left_arrow, goes_past};
+use hs_expressions::{read_exp, read_infix};
+use hs_forms::Fault;
+use hs_modules::{GdTree, GdaTree, GuardTree, InfixTree, OperandTree};
+use hs_readers::{Chained, Read, after, after_arrow, begins_comma, read_chain, read_pat};
+use hs_tokens::Terminal;
+use hs_trees::PatTree;
+use sqlite_items::Items;
+use std::alloc::Global;
+
+/// Guards between commas.
+pub struct GuardParts {}
+
+impl Chained for GuardParts {
+    type Tree = (GuardTree, Items<GuardTree>);
+
+    type Head = GuardTree;
+
+    type Item = GuardTree;
+
+    type Limit = Option<usize>;
+
+    ghost chain = { guards_chain };
+
+    ghost depth = { guard_lists.deep };
+
+    fn begins_item(tokens: &[Terminal]) -> bool {
+        begins_comma(tokens)
+    }
+
+    fn has_room(
+        _limit: Option<usize>,
+        _deep: usize,
+        _head: &GuardTree,
+        _items: &Items<GuardTree>,
+    ) -> bool {
+        true
+    }
+
+    fn make(head: GuardTree, items: Items<GuardTree>) -> (GuardTree, Items<GuardTree>)
+        ensures { (limit : Option ℕ) → result ≡ (guards_chain limit).make head items }
+    {
+        (head, items)
+    }
+
+    fn total(deep: usize, _count: usize) -> usize {
+        deep
+    }
+}
+
+/// `pat "<-" infix`
+fn read_bind<'a, F: Fn(&[Terminal], Option<usize>) -> Result<Read<'_, OperandTree>, Fault>>(
+    alloc: Global,
+    tokens: &'a [Terminal],
+    limit: Option<usize>,
+    operand: &F,
+) -> Result<Read<'a, (PatTree, InfixTree)>, Fault>
+    requires may { (here : _) (l : _) → length here.now < length tokens.now → F.pre operand.now here l }
+    requires says { (here : _) (l : _) (r : _) → F.post operand.now here l r → Answers (sort_of operands l) here.now r }
+    ensures { Answers (sort_of binds limit) tokens.now result }
+{
+    let pat = read_pat(alloc, tokens, limit)?;
+    let Some(next) = after_left_arrow(pat.rest) else {
+        return Err(Fault::At(pat.rest.len()));
+    };
+    let chain = read_infix(alloc, next, limit, operand)?;
+    Ok(Read {
+        tree: (pat.tree, chain.tree),
+        rest: chain.rest,
+        depth: pat.depth.max(chain.depth),
+    })
+}
+
+/// `infix`, before a token that may stand behind a guard.
+fn read_test<'a, F: Fn(&[Terminal], Option<usize>) -> Result<Read<'_, OperandTree>, Fault>>(
+    alloc: Global,
+    tokens: &'a [Terminal],
+    limit: Option<usize>,
+    operand: &F,
+) -> Result<Read<'a, InfixTree>, Fault>
+    requires may { (here : _) (l : _) → length here.now ≤ length tokens.now → F.pre operand.now here l }
+    requires says { (here : _) (l : _) (r : _) → F.post operand.now here l r → Answers (sort_of operands l) here.now r }
+    ensures answers { Answers (sort_of tests limit) tokens.now result }
+    ensures before_follow { IfOk result (λ read. begins past read.rest.now ≡ false) }
+{
+    let chain = read_infix(alloc, tokens, limit, operand)?;
+    if goes_past(chain.rest) {
+        return Err(Fault::At(chain.rest.len()));
+    }
+    Ok(chain)
+}
+
+/// `pat "<-" infix | infix`. What begins as both is refused where the longer of them stops.
+pub fn read_guard<'a, F: Fn(&[Terminal], Option<usize>) -> Result<Read<'_, OperandTree>, Fault>>(
+    alloc: Global,
+    tokens: &'a [Terminal],
+    limit: Option<usize>,
+    operand: &F,
+) -> Result<Read<'a, GuardTree>, Fault>
+    requires may { (here : _) (l : _) → length here.now ≤ length tokens.now → F.pre operand.now here l }
+    requires says { (here : _) (l : _) (r : _) → F.post operand.now here l r → Answers (sort_of operands l) here.now r }
+    ensures { Answers (sort_of guards limit) tokens.now result }
+{
+    let left = match read_bind(alloc, tokens, limit, operand) {
+        Ok(bind) => {
+            let (pat, chain) = bind.tree;
+            return Ok(Read {
+                tree: GuardTree::Bind(pat, chain),
+                rest: bind.rest,
+                depth: bind.depth,
+            });
+        }
+        Err(Fault::NoMemory) => return Err(Fault::NoMemory),
+        Err(Fault::At(left)) => left,
+    };
+    match read_test(alloc, tokens, limit, operand) {
+        Ok(test) => Ok(Read {
+            tree: GuardTree::Test(test.tree),
+            rest: test.rest,
+            depth: test.depth,
+        }),
+        Err(Fault::NoMemory) => Err(Fault::NoMemory),
+        Err(Fault::At(right)) => Err(Fault::At(left.min(right))),
+    }
+}
+
+/// `guard {"," guard}`
+pub fn read_guards<'a, F: Fn(&[Terminal], Option<usize>) -> Result<Read<'_, OperandTree>, Fault>>(
+    alloc: Global,
+    tokens: &'a [Terminal],
+    limit: Option<usize>,
+    operand: &F,
+) -> Result<Read<'a, (GuardTree, Items<GuardTree>)>, Fault>
+    requires may { (here : _) (l : _) → length here.now ≤ length tokens.now → F.pre operand.now here l }
+    requires says { (here : _) (l : _) (r : _) → F.post operand.now here l r → Answers (sort_of operands l) here.now r }
+    ensures { Answers (sort_of guard_lists limit) tokens.now result }
+{
+    let head = read_guard(alloc, tokens, limit, operand)?;
+    read_chain::<GuardParts, _>(
+        alloc,
+        tokens,
+        limit,
+        head,
+        |here, count|
+            requires less { count + length here.now < length tokens.now }
+            requires starts { begins is_comma here.now ≡ true }
+            requires may { (there : _) (l : _) → length there.now ≤ length tokens.now → F.pre operand.now there l }
+            requires says { (there : _) (l : _) (r : _) → F.post operand.now there l r → Answers (sort_of operands l) there.now r }
+            ensures { Answers (item_sort (guards_chain limit) count) here.now result }
+        {
+            let _ = &tokens;
+            let _ = &count;
+            read_guard(alloc, after(here, 1), limit, operand)
+        },
+    )
+}
+
+/// `"|" guard {"," guard} "=" exp`
+pub fn read_gd<'a, F: Fn(&[Terminal], Option<usize>) -> Result<Read<'_, OperandTree>, Fault>>(
+    alloc: Global,
+    tokens: &'a [Terminal],
+    limit: Option<usize>,
+    operand: &F,
+) -> Result<Read<'a, GdTree>, Fault>
+    requires starts { begins is_bar tokens.now ≡ true }
+    requires may { (here : _) (l : _) → length here.now < length tokens.now → F.pre operand.now here l }
+    requires says { (here : _) (l : _) (r : _) → F.post operand.now here l r → Answers (sort_of operands l) here.now r }
+    ensures { Answers (sort_of gds limit) tokens.now result }
+{
+    let guards = read_guards(alloc, after(tokens, 1), limit, operand)?;
+    let Some(next) = after_equals(guards.rest) else {
+        return Err(Fault::At(guards.rest.len()));
+    };
+    let exp = read_exp(alloc, next, limit, operand)?;
+    let (first, rest) = guards.tree;
+    Ok(Read {
+        tree: GdTree {
+            first,
+            rest,
+            exp: exp.tree,
+        },
+        rest: exp.rest,
+        depth: guards.depth.max(exp.depth),
+    })
+}
+
+/// Whether the last of these guards ends in no type, which would take an arrow behind it.
+fn fit(first: &GuardTree, rest: &[GuardTree]) -> bool
+    ensures { result ≡ guards_fit (first.now, rest.now) }
+{
+    match rest.last() {
+        Some(guard) => !ends_in_type(guard),
+        None => !ends_in_type(first),
+    }
+}
+
+/// `"|" guard {"," guard} "->" exp`
+pub fn read_gda<'a, F: Fn(&[Terminal], Option<usize>) -> Result<Read<'_, OperandTree>, Fault>>(
+    alloc: Global,
+    tokens: &'a [Terminal],
+    limit: Option<usize>,
+    operand: &F,
+) -> Result<Read<'a, GdaTree>, Fault>
+    requires starts { begins is_bar tokens.now ≡ true }
+    requires may { (here : _) (l : _) → length here.now < length tokens.now → F.pre operand.now here l }
+    requires says { (here : _) (l : _) (r : _) → F.post operand.now here l r → Answers (sort_of operands l) here.now r }
+    ensures { Answers (sort_of gdas limit) tokens.now result }
+{
+    let guards = read_guards(alloc, after(tokens, 1), limit, operand)?;
+    let (first, rest) = guards.tree;
+    let Some(next) = after_arrow(guards.rest) else {
+        return Err(Fault::At(guards.rest.len()));
+    };
+    if !fit(&first, rest.as_slice()) {
+        return Err(Fault::At(guards.rest.len()));
+    }
+    let exp = read_exp(alloc, next, limit, operand)?;
+    Ok(Read {
+        tree: GdaTree {
+            first,
+            rest,
+            exp: exp.tree,
+        },
+        rest: exp.rest,
+        depth: guards.depth.max(exp.depth),
+    })
+}
