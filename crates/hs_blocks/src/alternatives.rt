@@ -1,5 +1,5 @@
 //! Blocks of alternatives (Haskell 2010 Report, section 3.13), of operands and declarations that readers are given for.
-ghost use Rattle.std.specs.Prelude.{◌↔◌, IsTrue, max, map, ◌≡◌, ◌∷◌, ◌<◌, ◌≤◌, ◌+◌, ◌^◌, ℕ, Option, List, length, true};
+ghost use Rattle.std.specs.Prelude.{◌↔◌, IsTrue, max, map, ◌≡◌, ◌∷◌, ◌<◌, ◌≤◌, ◌+◌, ◌^◌, ℕ, Option, IfOk, length, true};
 ghost use Rattle.hs_forms.specs.Reading.{begins};
 ghost use Rattle.hs_forms.specs.Limits.{deepest};
 ghost use Rattle.hs_tokens.specs.declared.terminal.Terminal.{Terminal};
@@ -8,6 +8,7 @@ ghost use Rattle.hs_expression_forms.specs.Trees.{behind_token, sort_of};
 ghost use Rattle.hs_expression_forms.specs.Expressions.{alt_blocks, decl_blocks, operands};
 ghost use Rattle.hs_block_forms.specs.Blocks.{alt_items, alt_slots, is_semicolon};
 ghost use Rattle.hs_block_forms.proofs.BodyLemmas.{items_chain};
+ghost use Rattle.hs_block_forms.proofs.ItemLayerLemmas.{from_block};
 
 use crate::bodies::read_alt;
 use crate::leaf::{after_left_brace, after_right_brace, begins_lpat, begins_semicolon};
@@ -16,7 +17,7 @@ use hs_modules::{AltBlock, AltSlot, DeclBlock, OperandTree};
 use hs_readers::{Chained, Read, after, read_chain};
 use hs_tokens::Terminal;
 use sqlite_items::{Boxed, Items};
-use std::alloc::Global;
+use std::alloc::{AllocError, Global};
 
 /// What stands between the braces of a block of alternatives.
 pub struct AltItems {}
@@ -70,27 +71,49 @@ fn read_alt_slot<
     operand: &F,
     block: &D,
 ) -> Result<Read<'a, AltSlot>, Fault>
-    requires some { 0 < length tokens.now }
     requires may { (here : _) (l : _) → length here.now < length tokens.now → F.pre operand.now here l }
     requires says { (here : _) (l : _) (r : _) → F.post operand.now here l r → Answers (sort_of operands l) here.now r }
     requires may_decls { (here : _) (l : _) → length here.now < length tokens.now → D.pre block.now here l }
     requires says_decls { (here : _) (l : _) (r : _) → D.post block.now here l r → Answers (sort_of decl_blocks l) here.now r }
-    ensures { (k : Terminal) (next : List Terminal) → tokens.now ≡ k ∷ next → Answers (sort_of (behind_token k alt_slots) limit) tokens.now result }
+    ensures { (before : Terminal) → Answers (sort_of (behind_token before alt_slots) limit) (before ∷ tokens.now) result }
 {
-    let next = after(tokens, 1);
-    if !begins_lpat(next) {
+    if !begins_lpat(tokens) {
         return Ok(Read {
             tree: AltSlot::NoAlt,
-            rest: next,
+            rest: tokens,
             depth: 0,
         });
     }
-    let alt = read_alt(alloc, next, limit, operand, block)?;
+    let alt = read_alt(alloc, tokens, limit, operand, block)?;
     Ok(Read {
         tree: AltSlot::Alt(alt.tree),
         rest: alt.rest,
         depth: alt.depth,
     })
+}
+
+/// An alternative or none, with the `;` before it.
+fn read_more<
+    'a,
+    F: Fn(&[Terminal], Option<usize>) -> Result<Read<'_, OperandTree>, Fault>,
+    D: Fn(&[Terminal], Option<usize>) -> Result<Read<'_, DeclBlock>, Fault>,
+>(
+    alloc: Global,
+    tokens: &'a [Terminal],
+    limit: Option<usize>,
+    count: usize,
+    operand: &F,
+    block: &D,
+) -> Result<Read<'a, AltSlot>, Fault>
+    requires starts { begins is_semicolon tokens.now ≡ true }
+    requires may { (here : _) (l : _) → length here.now < length tokens.now → F.pre operand.now here l }
+    requires says { (here : _) (l : _) (r : _) → F.post operand.now here l r → Answers (sort_of operands l) here.now r }
+    requires may_decls { (here : _) (l : _) → length here.now < length tokens.now → D.pre block.now here l }
+    requires says_decls { (here : _) (l : _) (r : _) → D.post block.now here l r → Answers (sort_of decl_blocks l) here.now r }
+    ensures { Answers (item_sort (items_chain limit) count) tokens.now result }
+{
+    let _ = &count;
+    read_alt_slot(alloc, after(tokens, 1), limit, operand, block)
 }
 
 /// What stands between the braces of a block of alternatives, at its `{`.
@@ -111,10 +134,10 @@ fn read_alt_items<
     requires says_decls { (here : _) (l : _) (r : _) → D.post block.now here l r → Answers (sort_of decl_blocks l) here.now r }
     ensures { Answers (sort_of alt_items limit) tokens.now result }
 {
-    if after_left_brace(tokens).is_none() {
+    let Some(next) = after_left_brace(tokens) else {
         return Err(Fault::At(tokens.len()));
-    }
-    let head = read_alt_slot(alloc, tokens, limit, operand, block)?;
+    };
+    let head = read_alt_slot(alloc, next, limit, operand, block)?;
     read_chain::<AltItems, _>(
         alloc,
         tokens,
@@ -130,10 +153,18 @@ fn read_alt_items<
             ensures { Answers (item_sort (items_chain limit) count) here.now result }
         {
             let _ = &tokens;
-            let _ = &count;
-            read_alt_slot(alloc, here, limit, operand, block)
+            read_more(alloc, here, limit, count, operand, block)
         },
     )
+}
+
+/// The block of these alternatives.
+fn block_of(alloc: Global, items: (AltSlot, Items<AltSlot>)) -> Result<AltBlock, AllocError>
+    ensures { IfOk result (λ block. block ≡ from_block items.entry) }
+{
+    let (first, rest) = items;
+    let first = Boxed::new(alloc, first)?;
+    Ok(AltBlock { first, rest })
 }
 
 /// `"{" [alt] {";" [alt]} "}"`
@@ -158,10 +189,9 @@ pub fn read_alt_block<
     let Some(rest) = after_right_brace(items.rest) else {
         return Err(Fault::At(items.rest.len()));
     };
-    let (first, more) = items.tree;
-    let first = Boxed::new(alloc, first)?;
+    let tree = block_of(alloc, items.tree)?;
     Ok(Read {
-        tree: AltBlock { first, rest: more },
+        tree,
         rest,
         depth: items.depth,
     })

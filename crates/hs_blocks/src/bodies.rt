@@ -3,11 +3,13 @@
 ghost use Rattle.std.specs.Prelude.{◌↔◌, IsTrue, max, map, ◌≡◌, ◌∷◌, ◌<◌, ◌≤◌, ◌+◌, ◌^◌, ℕ, Option, length, true, false};
 ghost use Rattle.hs_forms.specs.Reading.{begins};
 ghost use Rattle.hs_forms.specs.Limits.{deepest};
+ghost use Rattle.hs_modules.specs.declared.expressions.AltBody.TheVariants.{GuardedArrows};
+ghost use Rattle.hs_modules.specs.declared.expressions.RhsBody.TheVariants.{GuardedEquals};
 ghost use Rattle.hs_readers.specs.Answers.{Answers, item_sort};
 ghost use Rattle.hs_expression_forms.specs.Trees.{sort_of};
 ghost use Rattle.hs_expression_forms.specs.Expressions.{decl_blocks, operands};
 ghost use Rattle.hs_block_forms.specs.Blocks.{alt_bodies, alt_parts, alts, gda_lists, gd_lists, is_bar, is_where, rhs_bodies, rhs_parts, rhss};
-ghost use Rattle.hs_block_forms.proofs.ItemLayerLemmas.{locals_of};
+ghost use Rattle.hs_block_forms.proofs.ItemLayerLemmas.{from_alt, from_rhs, locals_of};
 ghost use Rattle.hs_block_forms.proofs.BodyLemmas.{alt_chain, gd_chain, gda_chain, rhs_chain, where_sort};
 
 use crate::guards::{read_gd, read_gda};
@@ -19,6 +21,7 @@ use hs_modules::{
 };
 use hs_readers::{Chained, Read, after, after_arrow, allows, lower, read_chain, read_pat};
 use hs_tokens::Terminal;
+use hs_trees::PatTree;
 use sqlite_items::Items;
 use std::alloc::Global;
 
@@ -246,6 +249,20 @@ fn read_gdas<'a, F: Fn(&[Terminal], Option<usize>) -> Result<Read<'_, OperandTre
     )
 }
 
+/// The body that guarded expressions are.
+fn guarded_equals(guarded: Read<'_, (GdTree, Items<GdTree>)>) -> Read<'_, RhsBody>
+    ensures tree { result.tree ≡ GuardedEquals guarded.entry.tree.0 guarded.entry.tree.1 }
+    ensures rest { result.rest.now ≡ guarded.entry.rest.now }
+    ensures depth { result.depth ≡ guarded.entry.depth }
+{
+    let (first, rest) = guarded.tree;
+    Read {
+        tree: RhsBody::GuardedEquals(first, rest),
+        rest: guarded.rest,
+        depth: guarded.depth,
+    }
+}
+
 /// `"=" exp`, or guarded expressions.
 fn read_rhs_body<'a, F: Fn(&[Terminal], Option<usize>) -> Result<Read<'_, OperandTree>, Fault>>(
     alloc: Global,
@@ -269,12 +286,21 @@ fn read_rhs_body<'a, F: Fn(&[Terminal], Option<usize>) -> Result<Read<'_, Operan
         return Err(Fault::At(tokens.len()));
     }
     let guarded = read_gds(alloc, tokens, limit, operand)?;
+    Ok(guarded_equals(guarded))
+}
+
+/// The body that guarded expressions are.
+fn guarded_arrows(guarded: Read<'_, (GdaTree, Items<GdaTree>)>) -> Read<'_, AltBody>
+    ensures tree { result.tree ≡ GuardedArrows guarded.entry.tree.0 guarded.entry.tree.1 }
+    ensures rest { result.rest.now ≡ guarded.entry.rest.now }
+    ensures depth { result.depth ≡ guarded.entry.depth }
+{
     let (first, rest) = guarded.tree;
-    Ok(Read {
-        tree: RhsBody::GuardedEquals(first, rest),
+    Read {
+        tree: AltBody::GuardedArrows(first, rest),
         rest: guarded.rest,
         depth: guarded.depth,
-    })
+    }
 }
 
 /// `"->" exp`, or guarded expressions.
@@ -300,12 +326,7 @@ fn read_alt_body<'a, F: Fn(&[Terminal], Option<usize>) -> Result<Read<'_, Operan
         return Err(Fault::At(tokens.len()));
     }
     let guarded = read_gdas(alloc, tokens, limit, operand)?;
-    let (first, rest) = guarded.tree;
-    Ok(Read {
-        tree: AltBody::GuardedArrows(first, rest),
-        rest: guarded.rest,
-        depth: guarded.depth,
-    })
+    Ok(guarded_arrows(guarded))
 }
 
 /// `"where" block(decl)`
@@ -415,6 +436,24 @@ fn read_alt_parts<
     )
 }
 
+/// The right side that a body and what stands behind its `where` are.
+fn rhs_of(parts: Read<'_, (RhsBody, Items<DeclBlock>)>) -> Read<'_, RhsTree>
+    requires { length parts.tree.1 ≤ 1 }
+    ensures tree { result.tree ≡ from_rhs parts.entry.tree }
+    ensures rest { result.rest.now ≡ parts.entry.rest.now }
+    ensures depth { result.depth ≡ parts.entry.depth }
+{
+    let (body, blocks) = parts.tree;
+    Read {
+        tree: RhsTree {
+            body,
+            locals: locals_of(blocks),
+        },
+        rest: parts.rest,
+        depth: parts.depth,
+    }
+}
+
 /// `("=" exp | gd {gd}) ["where" block(decl)]`
 pub fn read_rhs<
     'a,
@@ -433,14 +472,30 @@ pub fn read_rhs<
     requires says_decls { (here : _) (l : _) (r : _) → D.post block.now here l r → Answers (sort_of decl_blocks l) here.now r }
     ensures { Answers (sort_of rhss limit) tokens.now result }
 {
-    let read = read_rhs_parts(alloc, tokens, limit, operand, block)?;
-    let (body, blocks) = read.tree;
-    let locals = locals_of(blocks);
-    Ok(Read {
-        tree: RhsTree { body, locals },
-        rest: read.rest,
-        depth: read.depth,
-    })
+    let parts = read_rhs_parts(alloc, tokens, limit, operand, block)?;
+    Ok(rhs_of(parts))
+}
+
+/// The alternative that a pattern, a body and what stands behind its `where` are.
+fn alt_of<'a>(
+    pat: Read<'_, PatTree>,
+    parts: Read<'a, (AltBody, Items<DeclBlock>)>,
+) -> Read<'a, AltTree>
+    requires { length parts.tree.1 ≤ 1 }
+    ensures tree { result.tree ≡ from_alt (pat.entry.tree, parts.entry.tree) }
+    ensures rest { result.rest.now ≡ parts.entry.rest.now }
+    ensures depth { result.depth ≡ max pat.entry.depth parts.entry.depth }
+{
+    let (body, blocks) = parts.tree;
+    Read {
+        tree: AltTree {
+            pat: pat.tree,
+            body,
+            locals: locals_of(blocks),
+        },
+        rest: parts.rest,
+        depth: pat.depth.max(parts.depth),
+    }
 }
 
 /// `pat ("->" exp | gda {gda}) ["where" block(decl)]`
@@ -462,16 +517,6 @@ pub fn read_alt<
     ensures { Answers (sort_of alts limit) tokens.now result }
 {
     let pat = read_pat(alloc, tokens, limit)?;
-    let read = read_alt_parts(alloc, pat.rest, limit, operand, block)?;
-    let (body, blocks) = read.tree;
-    let locals = locals_of(blocks);
-    Ok(Read {
-        tree: AltTree {
-            pat: pat.tree,
-            body,
-            locals,
-        },
-        rest: read.rest,
-        depth: pat.depth.max(read.depth),
-    })
+    let parts = read_alt_parts(alloc, pat.rest, limit, operand, block)?;
+    Ok(alt_of(pat, parts))
 }

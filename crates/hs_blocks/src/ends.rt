@@ -1,8 +1,9 @@
 //! Whether an expression ends in a type, which goes on with an arrow behind it.
 ghost use Rattle.std.specs.Prelude.{◌≡◌};
 ghost use Rattle.hs_modules.specs.Formed.{facts_of_exp, facts_of_guard, facts_of_infix, facts_of_operand};
+ghost use Rattle.hs_expression_forms.proofs.LinkLemmas.{make_infix};
 
-use hs_modules::{ExpTree, GuardTree, InfixTree, OperandTree};
+use hs_modules::{ExpTree, GuardTree, InfixTree, OpOperand, OperandTree, SignedOperand};
 
 /// Whether a guard ends in a type.
 pub fn ends_in_type(guard: &GuardTree) -> bool
@@ -18,8 +19,16 @@ pub fn ends_in_type(guard: &GuardTree) -> bool
 fn chain_ends_in_type(chain: &InfixTree) -> bool
     ensures { result ≡ (facts_of_infix chain.now).ends_in_type }
 {
-    let mut ends = operand_ends_in_type(&chain.first.operand);
-    for link in chain.rest.as_slice() {
+    links_end_in_type(&chain.first, chain.rest.as_slice())
+}
+
+/// Whether a chain of these ends in a type.
+#[cycle(ends)]
+fn links_end_in_type(first: &SignedOperand, rest: &[OpOperand]) -> bool
+    ensures { result ≡ (facts_of_infix (make_infix first.now rest.now)).ends_in_type }
+{
+    let mut ends = operand_ends_in_type(&first.operand);
+    for link in rest {
         ends = operand_ends_in_type(&link.operand.operand);
     }
     ends

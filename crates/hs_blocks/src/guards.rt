@@ -1,19 +1,22 @@
 //! Guards and guarded expressions (Haskell 2010 Report, sections 3.13 and 4.4.3.1), of operands that a reader is given for.
-ghost use Rattle.std.specs.Prelude.{◌↔◌, IsTrue, max, map, ◌≡◌, ◌∷◌, ◌<◌, ◌≤◌, ◌+◌, ◌^◌, ℕ, Option, IfOk, length, true, false};
+ghost use Rattle.std.specs.Prelude.{◌↔◌, IsTrue, max, map, ◌≡◌, ◌∷◌, ◌<◌, ◌≤◌, ◌+◌, ◌^◌, ℕ, Option, IfOk, MatchOption, length, true, false};
+ghost use Rattle.hs_forms.specs.Answers.{Rejects};
 ghost use Rattle.hs_forms.specs.Reading.{begins};
 ghost use Rattle.hs_forms.specs.Limits.{deepest};
-ghost use Rattle.hs_tokens.specs.Terminals.{is_comma};
+ghost use Rattle.hs_tokens.specs.Terminals.{is_arrow, is_comma};
+ghost use Rattle.hs_tokens.specs.declared.terminal.Terminal.TheVariants.{Arrow};
 ghost use Rattle.hs_readers.specs.Answers.{Answers, item_sort};
-ghost use Rattle.hs_expression_forms.specs.Trees.{sort_of};
+ghost use Rattle.hs_expression_forms.specs.Trees.{Took, sort_of, within};
 ghost use Rattle.hs_expression_forms.specs.Expressions.{operands};
 ghost use Rattle.hs_block_forms.specs.Blocks.{binds, gdas, gds, guard_lists, guards, guards_fit, is_bar, tests};
+ghost use Rattle.hs_block_forms.proofs.BlockLayerLemmas.{make_gd, make_gda};
 ghost use Rattle.hs_block_forms.proofs.GuardLemmas.{guards_chain, past};
 
 use crate::ends::ends_in_type;
 use crate::leaf::{after_equals, after_left_arrow, goes_past};
 use hs_expressions::{read_exp, read_infix};
 use hs_forms::Fault;
-use hs_modules::{GdTree, GdaTree, GuardTree, InfixTree, OperandTree};
+use hs_modules::{ExpTree, GdTree, GdaTree, GuardTree, InfixTree, OperandTree};
 use hs_readers::{Chained, Read, after, after_arrow, begins_comma, read_chain, read_pat};
 use hs_tokens::Terminal;
 use hs_trees::PatTree;
@@ -102,6 +105,42 @@ fn read_test<'a, F: Fn(&[Terminal], Option<usize>) -> Result<Read<'_, OperandTre
     Ok(chain)
 }
 
+/// The guard that a pattern and an expression behind `<-` are.
+fn bound(bind: Read<'_, (PatTree, InfixTree)>) -> Read<'_, GuardTree>
+    ensures { (limit : Option ℕ) (ts : _) → Took binds limit ts bind.entry.tree bind.entry.rest.now bind.entry.depth → Took guards limit ts result.tree result.rest.now result.depth }
+{
+    let (pat, chain) = bind.tree;
+    Read {
+        tree: GuardTree::Bind(pat, chain),
+        rest: bind.rest,
+        depth: bind.depth,
+    }
+}
+
+/// A guard without `<-`, where no pattern with `<-` stands; that was refused with so many tokens left.
+fn read_other<'a, F: Fn(&[Terminal], Option<usize>) -> Result<Read<'_, OperandTree>, Fault>>(
+    alloc: Global,
+    tokens: &'a [Terminal],
+    limit: Option<usize>,
+    operand: &F,
+    left: usize,
+) -> Result<Read<'a, GuardTree>, Fault>
+    requires refused { Rejects (within binds limit) tokens.now left }
+    requires may { (here : _) (l : _) → length here.now ≤ length tokens.now → F.pre operand.now here l }
+    requires says { (here : _) (l : _) (r : _) → F.post operand.now here l r → Answers (sort_of operands l) here.now r }
+    ensures { Answers (sort_of guards limit) tokens.now result }
+{
+    match read_test(alloc, tokens, limit, operand) {
+        Ok(test) => Ok(Read {
+            tree: GuardTree::Test(test.tree),
+            rest: test.rest,
+            depth: test.depth,
+        }),
+        Err(Fault::NoMemory) => Err(Fault::NoMemory),
+        Err(Fault::At(right)) => Err(Fault::At(left.min(right))),
+    }
+}
+
 /// `pat "<-" infix | infix`. What begins as both is refused where the longer of them stops.
 pub fn read_guard<'a, F: Fn(&[Terminal], Option<usize>) -> Result<Read<'_, OperandTree>, Fault>>(
     alloc: Global,
@@ -113,27 +152,28 @@ pub fn read_guard<'a, F: Fn(&[Terminal], Option<usize>) -> Result<Read<'_, Opera
     requires says { (here : _) (l : _) (r : _) → F.post operand.now here l r → Answers (sort_of operands l) here.now r }
     ensures { Answers (sort_of guards limit) tokens.now result }
 {
-    let left = match read_bind(alloc, tokens, limit, operand) {
-        Ok(bind) => {
-            let (pat, chain) = bind.tree;
-            return Ok(Read {
-                tree: GuardTree::Bind(pat, chain),
-                rest: bind.rest,
-                depth: bind.depth,
-            });
-        }
-        Err(Fault::NoMemory) => return Err(Fault::NoMemory),
-        Err(Fault::At(left)) => left,
-    };
-    match read_test(alloc, tokens, limit, operand) {
-        Ok(test) => Ok(Read {
-            tree: GuardTree::Test(test.tree),
-            rest: test.rest,
-            depth: test.depth,
-        }),
+    match read_bind(alloc, tokens, limit, operand) {
+        Ok(bind) => Ok(bound(bind)),
         Err(Fault::NoMemory) => Err(Fault::NoMemory),
-        Err(Fault::At(right)) => Err(Fault::At(left.min(right))),
+        Err(Fault::At(left)) => read_other(alloc, tokens, limit, operand, left),
     }
+}
+
+/// `"," guard`
+fn read_more<'a, F: Fn(&[Terminal], Option<usize>) -> Result<Read<'_, OperandTree>, Fault>>(
+    alloc: Global,
+    tokens: &'a [Terminal],
+    limit: Option<usize>,
+    count: usize,
+    operand: &F,
+) -> Result<Read<'a, GuardTree>, Fault>
+    requires starts { begins is_comma tokens.now ≡ true }
+    requires may { (here : _) (l : _) → length here.now ≤ length tokens.now → F.pre operand.now here l }
+    requires says { (here : _) (l : _) (r : _) → F.post operand.now here l r → Answers (sort_of operands l) here.now r }
+    ensures { Answers (item_sort (guards_chain limit) count) tokens.now result }
+{
+    let _ = &count;
+    read_guard(alloc, after(tokens, 1), limit, operand)
 }
 
 /// `guard {"," guard}`
@@ -161,10 +201,30 @@ pub fn read_guards<'a, F: Fn(&[Terminal], Option<usize>) -> Result<Read<'_, Oper
             ensures { Answers (item_sort (guards_chain limit) count) here.now result }
         {
             let _ = &tokens;
-            let _ = &count;
-            read_guard(alloc, after(here, 1), limit, operand)
+            read_more(alloc, here, limit, count, operand)
         },
     )
+}
+
+/// The guarded expression of a right side.
+fn equated<'a>(
+    guards: Read<'_, (GuardTree, Items<GuardTree>)>,
+    exp: Read<'a, ExpTree>,
+) -> Read<'a, GdTree>
+    ensures tree { result.tree ≡ make_gd (guards.entry.tree, exp.entry.tree) }
+    ensures rest { result.rest.now ≡ exp.entry.rest.now }
+    ensures depth { result.depth ≡ max guards.entry.depth exp.entry.depth }
+{
+    let (first, rest) = guards.tree;
+    Read {
+        tree: GdTree {
+            first,
+            rest,
+            exp: exp.tree,
+        },
+        rest: exp.rest,
+        depth: guards.depth.max(exp.depth),
+    }
 }
 
 /// `"|" guard {"," guard} "=" exp`
@@ -184,16 +244,7 @@ pub fn read_gd<'a, F: Fn(&[Terminal], Option<usize>) -> Result<Read<'_, OperandT
         return Err(Fault::At(guards.rest.len()));
     };
     let exp = read_exp(alloc, next, limit, operand)?;
-    let (first, rest) = guards.tree;
-    Ok(Read {
-        tree: GdTree {
-            first,
-            rest,
-            exp: exp.tree,
-        },
-        rest: exp.rest,
-        depth: guards.depth.max(exp.depth),
-    })
+    Ok(equated(guards, exp))
 }
 
 /// Whether the last of these guards ends in no type, which would take an arrow behind it.
@@ -203,6 +254,41 @@ fn fit(first: &GuardTree, rest: &[GuardTree]) -> bool
     match rest.last() {
         Some(guard) => !ends_in_type(guard),
         None => !ends_in_type(first),
+    }
+}
+
+/// What stands after a `->` behind these guards, if they may stand before one.
+fn after_fitting_arrow<'a>(
+    guards: &(GuardTree, Items<GuardTree>),
+    tokens: &'a [Terminal],
+) -> Option<&'a [Terminal]>
+    ensures { MatchOption result (guards_fit guards.now ≡ true → begins is_arrow tokens.now ≡ false) (λ rest. (tokens.now ≡ Arrow ∷ rest.now) × (guards_fit guards.now ≡ true)) }
+{
+    if fit(&guards.0, guards.1.as_slice()) {
+        after_arrow(tokens)
+    } else {
+        None
+    }
+}
+
+/// The guarded expression of an alternative.
+fn arrowed<'a>(
+    guards: Read<'_, (GuardTree, Items<GuardTree>)>,
+    exp: Read<'a, ExpTree>,
+) -> Read<'a, GdaTree>
+    ensures tree { result.tree ≡ make_gda (guards.entry.tree, exp.entry.tree) }
+    ensures rest { result.rest.now ≡ exp.entry.rest.now }
+    ensures depth { result.depth ≡ max guards.entry.depth exp.entry.depth }
+{
+    let (first, rest) = guards.tree;
+    Read {
+        tree: GdaTree {
+            first,
+            rest,
+            exp: exp.tree,
+        },
+        rest: exp.rest,
+        depth: guards.depth.max(exp.depth),
     }
 }
 
@@ -219,21 +305,9 @@ pub fn read_gda<'a, F: Fn(&[Terminal], Option<usize>) -> Result<Read<'_, Operand
     ensures { Answers (sort_of gdas limit) tokens.now result }
 {
     let guards = read_guards(alloc, after(tokens, 1), limit, operand)?;
-    let (first, rest) = guards.tree;
-    let Some(next) = after_arrow(guards.rest) else {
+    let Some(next) = after_fitting_arrow(&guards.tree, guards.rest) else {
         return Err(Fault::At(guards.rest.len()));
     };
-    if !fit(&first, rest.as_slice()) {
-        return Err(Fault::At(guards.rest.len()));
-    }
     let exp = read_exp(alloc, next, limit, operand)?;
-    Ok(Read {
-        tree: GdaTree {
-            first,
-            rest,
-            exp: exp.tree,
-        },
-        rest: exp.rest,
-        depth: guards.depth.max(exp.depth),
-    })
+    Ok(arrowed(guards, exp))
 }
