@@ -1,26 +1,24 @@
 -- Which chains and operands end in a type.
-use Rattle.std.proofs.Common.{◌≡◌, ◌+◌, ◌<◌, ℕ, Bool, true, false, List, [], ◌∷◌, ◌++◌, length, take, get_or, refl}
+use Rattle.std.proofs.Common.{◌≡◌, ◌+◌, ◌<◌, ℕ, true, false, List, [], ◌∷◌, ◌++◌, length, take, get_or, refl}
 use Rattle.std.proofs.Common.{sym, ap, ◌∙◌}
 use Rattle.std.specs.Prelude.{map}
-use Rattle.std.proofs.lemmas.List.{take_more, take_all}
-use Rattle.hs_modules.specs.Formed.{Facts, fact_algebra, last_of, facts_of_exp, facts_of_guard, facts_of_infix}
+use Rattle.std.proofs.lemmas.List.{take_more}
+use Rattle.hs_modules.specs.Formed.{Facts, fact_algebra, last_of, facts_of_exp, facts_of_infix}
 use Rattle.hs_modules.specs.Formed.{facts_of_link, facts_of_operand, facts_of_signed}
 use Rattle.hs_modules.specs.declared.expressions.AExpTree.{AExpTree}
 use Rattle.hs_modules.specs.declared.expressions.CaseTree.{CaseTree, out-CaseTree, roll-out-CaseTree}
 use Rattle.hs_modules.specs.declared.expressions.ExpTree.{ExpTree-F}
 use Rattle.hs_modules.specs.declared.expressions.ExpTree.TheVariants as x
 use Rattle.hs_modules.specs.declared.expressions.IfTree.{IfTree, out-IfTree, roll-out-IfTree}
-use Rattle.hs_modules.specs.declared.expressions.InfixTree.{InfixTree, out-InfixTree, out-roll-InfixTree}
-use Rattle.hs_modules.specs.declared.expressions.InfixTree.{roll-out-InfixTree}
+use Rattle.hs_modules.specs.declared.expressions.InfixTree.{InfixTree, out-InfixTree}
 use Rattle.hs_modules.specs.declared.expressions.LambdaTree.{LambdaTree, out-LambdaTree, roll-out-LambdaTree}
 use Rattle.hs_modules.specs.declared.expressions.LetTree.{LetTree, out-LetTree, roll-out-LetTree}
 use Rattle.hs_modules.specs.declared.expressions.OpOperand.{OpOperand, out-OpOperand}
 use Rattle.hs_modules.specs.declared.expressions.OperandTree.TheVariants as d
 use Rattle.hs_modules.specs.declared.expressions.SignedOperand.{SignedOperand}
-use Rattle.hs_modules.specs.declared.types.TypeTree.{TypeTree}
+use Rattle.hs_trees.specs.declared.types.TypeTree.{TypeTree}
 use Rattle.hs_modules.proofs.FoldingLemmas.{exp_folded}
 use Rattle.hs_expression_forms.proofs.LinkLayerLemmas.{operand_of, infix_facts, link_facts, signed_facts}
-use Rattle.hs_expression_forms.proofs.LinkLemmas.{make_infix}
 use Rattle.hs_expression_forms.proofs.OperandLayerLemmas.{lambda_facts, let_facts, if_facts, case_facts, apply_facts}
 
 -- an operand ends in a type where its last part does
@@ -67,45 +65,31 @@ annotated_type c ty =
     sym (ap (λ y. (facts_of_exp y).ends_in_type) (sym (x.rolls-Annotated c ty))
     ∙ ap (λ (f : Facts). f.ends_in_type) (exp_folded fact_algebra (ExpTree-F.Annotated c ty)))
 
+-- an operator and its operand
+pub link_type : (x : OpOperand) →
+    (facts_of_operand (operand_of (out-OpOperand x).operand)).ends_in_type ≡ (facts_of_link x).ends_in_type
+link_type x = sym (ap (λ (f : Facts). f.ends_in_type) (link_facts x))
+
+-- the first operand of a chain
+pub first_type : (s : SignedOperand) →
+    (facts_of_operand (operand_of s)).ends_in_type ≡ (facts_of_signed s).ends_in_type
+first_type s = sym (ap (λ (f : Facts). f.ends_in_type) (signed_facts s))
+
 -- the last operand of a chain
-abbrev last_type : SignedOperand → List OpOperand → Bool
-last_type s [] = (facts_of_operand (operand_of s)).ends_in_type
-last_type s (x ∷ xs) = last_type (out-OpOperand x).operand xs
+pub chain_type : (c : InfixTree) →
+    (last_of (facts_of_signed (out-InfixTree c).first) (map facts_of_link (out-InfixTree c).rest)).ends_in_type
+    ≡ (facts_of_infix c).ends_in_type
+chain_type c = sym (ap (λ (f : Facts). f.ends_in_type) (infix_facts c))
 
-last_is : (s : SignedOperand) (f : Facts) → f ≡ facts_of_operand (operand_of s) → (xs : List OpOperand) →
-    (last_of f (map facts_of_link xs)).ends_in_type ≡ last_type s xs
-last_is s f is [] = ap (λ (g : Facts). g.ends_in_type) is
-last_is s f is (x ∷ xs) = last_is (out-OpOperand x).operand (facts_of_link x) (link_facts x) xs
-
-chain_type : (s : SignedOperand) (xs : List OpOperand) →
-    (facts_of_infix (make_infix s xs)).ends_in_type ≡ last_type s xs
-chain_type s xs =
-    let o = out-InfixTree (make_infix s xs) in
-    ap (λ (f : Facts). f.ends_in_type) (infix_facts (make_infix s xs))
-    ∙ last_is o.first (facts_of_signed o.first) (signed_facts o.first) o.rest
-    ∙ ap (λ l. last_type l.first l.rest) (out-roll-InfixTree (record { first = s; rest = xs }))
-
-last_type_more : (s : SignedOperand) (xs : List OpOperand) (x : OpOperand) →
-    last_type s (xs ++ x ∷ []) ≡ (facts_of_operand (operand_of (out-OpOperand x).operand)).ends_in_type
-last_type_more s [] x = refl
-last_type_more s (y ∷ xs) x = last_type_more (out-OpOperand y).operand xs x
-
--- a chain of one operand
-pub type_alone : (s : SignedOperand) (xs : List OpOperand) →
-    (facts_of_operand (operand_of s)).ends_in_type ≡ (facts_of_infix (make_infix s (take 0 xs))).ends_in_type
-type_alone s xs = sym (chain_type s [])
+last_more : (f : Facts) (xs : List OpOperand) (x : OpOperand) →
+    last_of f (map facts_of_link (xs ++ x ∷ [])) ≡ facts_of_link x
+last_more f [] x = refl
+last_more f (y ∷ xs) x = last_more (facts_of_link y) xs x
 
 -- one operand more
-pub type_more : (s : SignedOperand) (xs : List OpOperand) (i : ℕ) (x : OpOperand) → i < length xs →
-    x ≡ get_or xs i x → (facts_of_operand (operand_of (out-OpOperand x).operand)).ends_in_type
-    ≡ (facts_of_infix (make_infix s (take (i + 1) xs))).ends_in_type
-type_more s xs i x within is =
-    sym (ap (λ ys. (facts_of_infix (make_infix s ys)).ends_in_type) (take_more xs i x within)
-    ∙ chain_type s (take i xs ++ get_or xs i x ∷ []) ∙ last_type_more s (take i xs) (get_or xs i x)
-    ∙ ap (λ y. (facts_of_operand (operand_of (out-OpOperand y).operand)).ends_in_type) (sym is))
-
--- a chain of its parts
-pub type_whole : (c : InfixTree) →
-    (facts_of_infix (make_infix (out-InfixTree c).first (out-InfixTree c).rest)).ends_in_type
-    ≡ (facts_of_infix c).ends_in_type
-type_whole c = ap (λ y. (facts_of_infix y).ends_in_type) (roll-out-InfixTree c)
+pub type_more : (f : Facts) (xs : List OpOperand) (i : ℕ) (x : OpOperand) → i < length xs → x ≡ get_or xs i x →
+    (facts_of_link x).ends_in_type ≡ (last_of f (map facts_of_link (take (i + 1) xs))).ends_in_type
+type_more f xs i x within is =
+    sym (ap (λ ys. (last_of f (map facts_of_link ys)).ends_in_type) (take_more xs i x within)
+    ∙ ap (λ (g : Facts). g.ends_in_type) (last_more f (take i xs) (get_or xs i x))
+    ∙ ap (λ y. (facts_of_link y).ends_in_type) (sym is))

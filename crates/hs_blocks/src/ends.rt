@@ -1,9 +1,8 @@
 //! Whether an expression ends in a type, which goes on with an arrow behind it.
-ghost use Rattle.std.specs.Prelude.{◌≡◌};
-ghost use Rattle.hs_modules.specs.Formed.{facts_of_exp, facts_of_guard, facts_of_infix, facts_of_operand};
-ghost use Rattle.hs_expression_forms.proofs.LinkLemmas.{make_infix};
+ghost use Rattle.std.specs.Prelude.{◌≡◌, map};
+ghost use Rattle.hs_modules.specs.Formed.{Facts, facts_of_exp, facts_of_guard, facts_of_infix, facts_of_link, facts_of_operand, last_of};
 
-use hs_modules::{ExpTree, GuardTree, InfixTree, OpOperand, OperandTree, SignedOperand};
+use hs_modules::{ExpTree, GuardTree, InfixTree, OpOperand, OperandTree};
 
 /// Whether a guard ends in a type.
 pub fn ends_in_type(guard: &GuardTree) -> bool
@@ -19,19 +18,27 @@ pub fn ends_in_type(guard: &GuardTree) -> bool
 fn chain_ends_in_type(chain: &InfixTree) -> bool
     ensures { result ≡ (facts_of_infix chain.now).ends_in_type }
 {
-    links_end_in_type(&chain.first, chain.rest.as_slice())
+    let first = operand_ends_in_type(&chain.first.operand);
+    links_end_in_type(first, chain.rest.as_slice())
 }
 
-/// Whether a chain of these ends in a type.
+/// Whether the last of these operands ends in a type, or what stands before them, if there are none.
 #[cycle(ends)]
-fn links_end_in_type(first: &SignedOperand, rest: &[OpOperand]) -> bool
-    ensures { result ≡ (facts_of_infix (make_infix first.now rest.now)).ends_in_type }
+fn links_end_in_type(before: bool, links: &[OpOperand]) -> bool
+    ensures { (first : Facts) → before ≡ first.ends_in_type → result ≡ (last_of first (map facts_of_link links.now)).ends_in_type }
 {
-    let mut ends = operand_ends_in_type(&first.operand);
-    for link in rest {
-        ends = operand_ends_in_type(&link.operand.operand);
+    let mut ends = before;
+    for link in links {
+        ends = link_ends_in_type(link);
     }
     ends
+}
+
+#[cycle(ends)]
+fn link_ends_in_type(link: &OpOperand) -> bool
+    ensures { result ≡ (facts_of_link link.now).ends_in_type }
+{
+    operand_ends_in_type(&link.operand.operand)
 }
 
 #[cycle(ends)]

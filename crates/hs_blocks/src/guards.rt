@@ -4,10 +4,10 @@ ghost use Rattle.hs_forms.specs.Answers.{Rejects};
 ghost use Rattle.hs_forms.specs.Reading.{begins};
 ghost use Rattle.hs_forms.specs.Limits.{deepest};
 ghost use Rattle.hs_tokens.specs.Terminals.{is_arrow, is_comma};
-ghost use Rattle.hs_tokens.specs.declared.terminal.Terminal.TheVariants.{Arrow};
+ghost use Rattle.hs_tokens.specs.declared.terminal.Terminal.TheVariants.{Arrow, Bar, Equals};
 ghost use Rattle.hs_readers.specs.Answers.{Answers, item_sort};
 ghost use Rattle.hs_expression_forms.specs.Trees.{Took, sort_of, within};
-ghost use Rattle.hs_expression_forms.specs.Expressions.{operands};
+ghost use Rattle.hs_expression_forms.specs.Expressions.{exps, operands};
 ghost use Rattle.hs_block_forms.specs.Blocks.{binds, gdas, gds, guard_lists, guards, guards_fit, is_bar, tests};
 ghost use Rattle.hs_block_forms.proofs.BlockLayerLemmas.{make_gd, make_gda};
 ghost use Rattle.hs_block_forms.proofs.GuardLemmas.{guards_chain, past};
@@ -227,6 +227,35 @@ fn equated<'a>(
     }
 }
 
+/// The guarded expression of a right side, where its expression was read.
+fn equated_if_read<'a>(
+    guards: Read<'_, (GuardTree, Items<GuardTree>)>,
+    exp: Result<Read<'a, ExpTree>, Fault>,
+) -> Result<Read<'a, GdTree>, Fault>
+    ensures { (limit : Option ℕ) (ts next after : _) → ts ≡ Bar ∷ next → Took guard_lists limit next guards.entry.tree guards.entry.rest.now guards.entry.depth → guards.entry.rest.now ≡ Equals ∷ after → Answers (sort_of exps limit) after exp.entry → Answers (sort_of gds limit) ts result }
+{
+    let exp = exp?;
+    Ok(equated(guards, exp))
+}
+
+/// `"=" exp` behind these guards.
+fn read_equals_exp<'a, F: Fn(&[Terminal], Option<usize>) -> Result<Read<'_, OperandTree>, Fault>>(
+    alloc: Global,
+    guards: Read<'a, (GuardTree, Items<GuardTree>)>,
+    limit: Option<usize>,
+    operand: &F,
+) -> Result<Read<'a, GdTree>, Fault>
+    requires may { (here : _) (l : _) → length here.now < length guards.rest.now → F.pre operand.now here l }
+    requires says { (here : _) (l : _) (r : _) → F.post operand.now here l r → Answers (sort_of operands l) here.now r }
+    ensures { (ts next : _) → ts ≡ Bar ∷ next → Took guard_lists limit next guards.entry.tree guards.entry.rest.now guards.entry.depth → Answers (sort_of gds limit) ts result }
+{
+    let Some(next) = after_equals(guards.rest) else {
+        return Err(Fault::At(guards.rest.len()));
+    };
+    let exp = read_exp(alloc, next, limit, operand);
+    equated_if_read(guards, exp)
+}
+
 /// `"|" guard {"," guard} "=" exp`
 pub fn read_gd<'a, F: Fn(&[Terminal], Option<usize>) -> Result<Read<'_, OperandTree>, Fault>>(
     alloc: Global,
@@ -240,11 +269,7 @@ pub fn read_gd<'a, F: Fn(&[Terminal], Option<usize>) -> Result<Read<'_, OperandT
     ensures { Answers (sort_of gds limit) tokens.now result }
 {
     let guards = read_guards(alloc, after(tokens, 1), limit, operand)?;
-    let Some(next) = after_equals(guards.rest) else {
-        return Err(Fault::At(guards.rest.len()));
-    };
-    let exp = read_exp(alloc, next, limit, operand)?;
-    Ok(equated(guards, exp))
+    read_equals_exp(alloc, guards, limit, operand)
 }
 
 /// Whether the last of these guards ends in no type, which would take an arrow behind it.
@@ -292,6 +317,35 @@ fn arrowed<'a>(
     }
 }
 
+/// The guarded expression of an alternative, where its expression was read.
+fn arrowed_if_read<'a>(
+    guards: Read<'_, (GuardTree, Items<GuardTree>)>,
+    exp: Result<Read<'a, ExpTree>, Fault>,
+) -> Result<Read<'a, GdaTree>, Fault>
+    ensures { (limit : Option ℕ) (ts next after : _) → ts ≡ Bar ∷ next → Took guard_lists limit next guards.entry.tree guards.entry.rest.now guards.entry.depth → guards.entry.rest.now ≡ Arrow ∷ after → guards_fit guards.entry.tree ≡ true → Answers (sort_of exps limit) after exp.entry → Answers (sort_of gdas limit) ts result }
+{
+    let exp = exp?;
+    Ok(arrowed(guards, exp))
+}
+
+/// `"->" exp` behind these guards.
+fn read_arrow_exp<'a, F: Fn(&[Terminal], Option<usize>) -> Result<Read<'_, OperandTree>, Fault>>(
+    alloc: Global,
+    guards: Read<'a, (GuardTree, Items<GuardTree>)>,
+    limit: Option<usize>,
+    operand: &F,
+) -> Result<Read<'a, GdaTree>, Fault>
+    requires may { (here : _) (l : _) → length here.now < length guards.rest.now → F.pre operand.now here l }
+    requires says { (here : _) (l : _) (r : _) → F.post operand.now here l r → Answers (sort_of operands l) here.now r }
+    ensures { (ts next : _) → ts ≡ Bar ∷ next → Took guard_lists limit next guards.entry.tree guards.entry.rest.now guards.entry.depth → Answers (sort_of gdas limit) ts result }
+{
+    let Some(next) = after_fitting_arrow(&guards.tree, guards.rest) else {
+        return Err(Fault::At(guards.rest.len()));
+    };
+    let exp = read_exp(alloc, next, limit, operand);
+    arrowed_if_read(guards, exp)
+}
+
 /// `"|" guard {"," guard} "->" exp`
 pub fn read_gda<'a, F: Fn(&[Terminal], Option<usize>) -> Result<Read<'_, OperandTree>, Fault>>(
     alloc: Global,
@@ -305,9 +359,5 @@ pub fn read_gda<'a, F: Fn(&[Terminal], Option<usize>) -> Result<Read<'_, Operand
     ensures { Answers (sort_of gdas limit) tokens.now result }
 {
     let guards = read_guards(alloc, after(tokens, 1), limit, operand)?;
-    let Some(next) = after_fitting_arrow(&guards.tree, guards.rest) else {
-        return Err(Fault::At(guards.rest.len()));
-    };
-    let exp = read_exp(alloc, next, limit, operand)?;
-    Ok(arrowed(guards, exp))
+    read_arrow_exp(alloc, guards, limit, operand)
 }

@@ -13,7 +13,7 @@ returns-in_err-decls g c =
     let led = where_led c.args.tokens.now c.requires.starts
     ∙ ap (λ l. t.Word w.Where ∷ l) (sym c.after.ensures) in
     let p = err_from_is_err_and c.from_residual.result c.from_residual.ensures.1 in
-    rw (p.1, p.2) (where_failed c.args.limit c.args.tokens.now _ _ led
+    rw (p.1, p.2) (where_failed c.args.limit c.args.tokens.now c.after.result.now c.in_err-decls.field-0.0 led
     (subst (λ l. Failed decl_blocks l c.after.result.now c.in_err-decls.field-0.0) c.lower.ensures
     (c.requires.says_decls _ _ _ c.in_err-decls.ensures)))
 
@@ -21,6 +21,7 @@ pub returns : goal.returns
 returns g c =
     let led = where_led c.args.tokens.now c.requires.starts
     ∙ ap (λ l. t.Word w.Where ∷ l) (sym c.after.ensures) in
-    where_took c.args.limit c.args.tokens.now _ _ _ _ led
+    where_took c.args.limit c.args.tokens.now c.after.result.now c.in_ok-decls.decls.tree
+    c.in_ok-decls.decls.rest.now c.in_ok-decls.decls.depth led
     (subst (λ l. Took decl_blocks l c.after.result.now c.in_ok-decls.decls.tree c.in_ok-decls.decls.rest.now
     c.in_ok-decls.decls.depth) c.lower.ensures (c.requires.says_decls _ _ _ c.in_ok-decls.ensures))

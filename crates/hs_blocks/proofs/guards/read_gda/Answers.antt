@@ -1,9 +1,7 @@
-use Rattle.std.proofs.Common.{◌∷◌, ◌∙◌, ap, sym, true≢false}
+use Rattle.std.proofs.Common.{◌∷◌, ◌∙◌, ap, sym}
 use Rattle.std.proofs.lemmas.Result.{err_from_is_err_and}
-use Rattle.hs_forms.specs.Reading.{begins}
-use Rattle.hs_tokens.specs.Terminals.{is_arrow}
 use Rattle.hs_tokens.specs.declared.terminal.Terminal.TheVariants as t
-use Rattle.hs_block_forms.proofs.BodyLemmas.{gda_guards_failed, gda_missed, gda_exp_failed, gda_took}
+use Rattle.hs_block_forms.proofs.BodyLemmas.{gda_guards_failed}
 use Rattle.hs_blocks.proofs.TokenLemmas.{bar_led}
 use Rattle.hs_blocks.proofs.guards.read_gda.Goals as goal
 
@@ -13,22 +11,7 @@ returns-in_err-guards g c =
     let p = err_from_is_err_and c.from_residual.result c.from_residual.ensures.1 in
     rw (p.1, p.2) (gda_guards_failed c.args.limit c.args.tokens.now _ led _ c.in_err-guards.ensures)
 
-pub returns-in_default : goal.returns-in_default
-returns-in_default g c =
-    let led = bar_led c.args.tokens.now c.requires.starts ∙ ap (λ l. t.Bar ∷ l) (sym c.after.ensures) in
-    gda_missed c.args.limit c.args.tokens.now _ led _ _ _ c.in_ok-guards.ensures
-    (λ more at fits. true≢false (sym (ap (begins is_arrow) at) ∙ c.in_default.ensures fits))
-
-pub returns-in_err-exp : goal.returns-in_err-exp
-returns-in_err-exp g c =
-    let led = bar_led c.args.tokens.now c.requires.starts ∙ ap (λ l. t.Bar ∷ l) (sym c.after.ensures) in
-    let p = err_from_is_err_and c.from_residual-in_err-exp.result c.from_residual-in_err-exp.ensures.1 in
-    rw (p.1, p.2) (gda_exp_failed c.args.limit c.args.tokens.now _ led _ _ _ _ c.in_ok-guards.ensures
-    c.in-Some.ensures.0 c.in-Some.ensures.1 _ c.in_err-exp.ensures)
-
 pub returns : goal.returns
 returns g c =
     let led = bar_led c.args.tokens.now c.requires.starts ∙ ap (λ l. t.Bar ∷ l) (sym c.after.ensures) in
-    rw (c.arrowed.ensures.tree, c.arrowed.ensures.rest, c.arrowed.ensures.depth)
-    (gda_took c.args.limit c.args.tokens.now _ led _ _ _ _ c.in_ok-guards.ensures c.in-Some.ensures.0
-    c.in-Some.ensures.1 _ _ _ c.in_ok-exp.ensures)
+    c.read_arrow_exp.ensures c.args.tokens.now _ led c.in_ok-guards.ensures
