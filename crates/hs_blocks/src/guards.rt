@@ -206,6 +206,9 @@ pub fn read_guards<'a, F: Fn(&[Terminal], Option<usize>) -> Result<Read<'_, Oper
     )
 }
 
+/// Lets guards go. Where branches part, this is checked far sooner than a drop at the end of each.
+fn let_go(_guards: Read<'_, (GuardTree, Items<GuardTree>)>) {}
+
 /// The guarded expression of a right side.
 fn equated<'a>(
     guards: Read<'_, (GuardTree, Items<GuardTree>)>,
@@ -234,8 +237,13 @@ fn equated_if_read<'a>(
 ) -> Result<Read<'a, GdTree>, Fault>
     ensures { (limit : Option ℕ) (ts next after : _) → ts ≡ Bar ∷ next → Took guard_lists limit next guards.entry.tree guards.entry.rest.now guards.entry.depth → guards.entry.rest.now ≡ Equals ∷ after → Answers (sort_of exps limit) after exp.entry → Answers (sort_of gds limit) ts result }
 {
-    let exp = exp?;
-    Ok(equated(guards, exp))
+    match exp {
+        Ok(exp) => Ok(equated(guards, exp)),
+        Err(fault) => {
+            let_go(guards);
+            Err(fault)
+        }
+    }
 }
 
 /// `"=" exp` behind these guards.
@@ -250,7 +258,9 @@ fn read_equals_exp<'a, F: Fn(&[Terminal], Option<usize>) -> Result<Read<'_, Oper
     ensures { (ts next : _) → ts ≡ Bar ∷ next → Took guard_lists limit next guards.entry.tree guards.entry.rest.now guards.entry.depth → Answers (sort_of gds limit) ts result }
 {
     let Some(next) = after_equals(guards.rest) else {
-        return Err(Fault::At(guards.rest.len()));
+        let left = guards.rest.len();
+        let_go(guards);
+        return Err(Fault::At(left));
     };
     let exp = read_exp(alloc, next, limit, operand);
     equated_if_read(guards, exp)
@@ -324,8 +334,13 @@ fn arrowed_if_read<'a>(
 ) -> Result<Read<'a, GdaTree>, Fault>
     ensures { (limit : Option ℕ) (ts next after : _) → ts ≡ Bar ∷ next → Took guard_lists limit next guards.entry.tree guards.entry.rest.now guards.entry.depth → guards.entry.rest.now ≡ Arrow ∷ after → guards_fit guards.entry.tree ≡ true → Answers (sort_of exps limit) after exp.entry → Answers (sort_of gdas limit) ts result }
 {
-    let exp = exp?;
-    Ok(arrowed(guards, exp))
+    match exp {
+        Ok(exp) => Ok(arrowed(guards, exp)),
+        Err(fault) => {
+            let_go(guards);
+            Err(fault)
+        }
+    }
 }
 
 /// `"->" exp` behind these guards.
@@ -340,7 +355,9 @@ fn read_arrow_exp<'a, F: Fn(&[Terminal], Option<usize>) -> Result<Read<'_, Opera
     ensures { (ts next : _) → ts ≡ Bar ∷ next → Took guard_lists limit next guards.entry.tree guards.entry.rest.now guards.entry.depth → Answers (sort_of gdas limit) ts result }
 {
     let Some(next) = after_fitting_arrow(&guards.tree, guards.rest) else {
-        return Err(Fault::At(guards.rest.len()));
+        let left = guards.rest.len();
+        let_go(guards);
+        return Err(Fault::At(left));
     };
     let exp = read_exp(alloc, next, limit, operand);
     arrowed_if_read(guards, exp)
