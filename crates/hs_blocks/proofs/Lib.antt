@@ -1,0 +1,4 @@
+pub mod TokenLemmas
+pub mod GuardListLemmas
+pub mod EndsLemmas
+pub mod PartsLemmas

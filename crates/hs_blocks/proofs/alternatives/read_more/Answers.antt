@@ -1,0 +1,14 @@
+use Rattle.std.proofs.Common.{◌∷◌, ◌∙◌, ap, sym, subst}
+use Rattle.hs_tokens.specs.declared.terminal.Terminal.TheVariants as t
+use Rattle.hs_readers.specs.Answers.{Answers}
+use Rattle.hs_expression_forms.specs.Trees.{sort_of, behind_token}
+use Rattle.hs_block_forms.specs.Blocks.{alt_slots}
+use Rattle.hs_blocks.proofs.TokenLemmas.{semicolon_led}
+use Rattle.hs_blocks.proofs.alternatives.read_more.Goals as goal
+
+pub returns : goal.returns
+returns g c =
+    let led = semicolon_led c.args.tokens.now c.requires.starts
+    ∙ ap (λ l. t.Semicolon ∷ l) (sym c.after.ensures) in
+    subst (λ ts. Answers (sort_of (behind_token t.Semicolon alt_slots) c.args.limit) ts c.read_alt_slot.result)
+    (sym led) (c.read_alt_slot.ensures t.Semicolon)

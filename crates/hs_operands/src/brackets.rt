@@ -1,0 +1,210 @@
+//! Expressions in brackets, tuples, lists and sections (Haskell 2010 Report, sections 3.2, 3.5, 3.7, 3.8 and 3.9).
+ghost use Rattle.std.specs.Prelude.{◌≡◌, ◌∷◌, ◌<◌, ◌≤◌, length, IfOk, ℕ, Option};
+ghost use Rattle.hs_forms.specs.Limits.{Within};
+ghost use Rattle.hs_tokens.specs.declared.terminal.Terminal.TheVariants.{LeftBracket, LeftParen};
+ghost use Rattle.hs_readers.specs.Answers.{Answers};
+ghost use Rattle.hs_trees.specs.Patterns.{named_con};
+ghost use Rattle.hs_expression_forms.specs.Trees.{sort_of};
+ghost use Rattle.hs_expression_forms.specs.Expressions.{aexps, operands};
+ghost use Rattle.hs_expression_forms.specs.Fronts.{Inside, bunch_of};
+ghost use Rattle.hs_expression_forms.proofs.AExpLemmas.{make_inside};
+ghost use Rattle.hs_operand_forms.specs.Brackets.{OpensInside, OpensSection};
+
+use crate::leaf::{after_left_bracket, after_symbol, begins_backquote};
+use crate::lists::{read_bunch, read_parts};
+use crate::words::{named_symbol, read_word};
+use hs_expression_forms::Front;
+use hs_expressions::{begins_minus, read_infix, read_qop};
+use hs_forms::Fault;
+use hs_modules::{AExpTree, ExpTree, OperandTree};
+use hs_readers::{
+    Read, after_left_paren, after_right_bracket, after_right_paren, allows, begins_tuple_name,
+    lower, read_tuple_name,
+};
+use hs_tokens::Terminal;
+use hs_trees::GConTree;
+use sqlite_items::{Boxed, Items};
+use std::alloc::{AllocError, Global};
+
+/// An `aexp`: a name, a literal, or what stands in brackets.
+pub fn read_aexp<'a, F: Fn(&[Terminal], Option<usize>) -> Result<Read<'_, OperandTree>, Fault>>(
+    alloc: Global,
+    tokens: &'a [Terminal],
+    limit: Option<usize>,
+    operand: &F,
+) -> Result<Read<'a, AExpTree>, Fault>
+    requires may { (here : _) (l : _) → length here.now < length tokens.now → F.pre operand.now here l }
+    requires says { (here : _) (l : _) (r : _) → F.post operand.now here l r → Answers (sort_of operands l) here.now r }
+    ensures { Answers (sort_of aexps limit) tokens.now result }
+{
+    if let Some(next) = after_left_paren(tokens) {
+        return read_paren(alloc, next, limit, operand);
+    }
+    if let Some(next) = after_left_bracket(tokens) {
+        return read_bracket(alloc, next, limit, operand);
+    }
+    read_word(alloc, tokens)
+}
+
+/// The constructor that the name of the unit or of a tuple is.
+fn named_con(commas: usize) -> GConTree
+    ensures { result ≡ named_con commas }
+{
+    if commas == 0 {
+        GConTree::Unit
+    } else {
+        GConTree::Tuple(commas)
+    }
+}
+
+/// An `aexp` after its `(`.
+fn read_paren<'a, F: Fn(&[Terminal], Option<usize>) -> Result<Read<'_, OperandTree>, Fault>>(
+    alloc: Global,
+    tokens: &'a [Terminal],
+    limit: Option<usize>,
+    operand: &F,
+) -> Result<Read<'a, AExpTree>, Fault>
+    requires may { (here : _) (l : _) → length here.now ≤ length tokens.now → F.pre operand.now here l }
+    requires says { (here : _) (l : _) (r : _) → F.post operand.now here l r → Answers (sort_of operands l) here.now r }
+    ensures { Answers (sort_of aexps limit) (LeftParen ∷ tokens.now) result }
+{
+    if begins_tuple_name(tokens) {
+        let name = read_tuple_name(tokens)?;
+        let tree = AExpTree::Con(named_con(name.tree));
+        return Ok(Read {
+            tree,
+            rest: name.rest,
+            depth: name.depth,
+        });
+    }
+    if let Some((first, next)) = after_symbol(tokens) {
+        if let Some(rest) = after_right_paren(next) {
+            let tree = named_symbol(alloc, first)?;
+            return Ok(Read {
+                tree,
+                rest,
+                depth: 0,
+            });
+        }
+        // As far as the symbol the tokens may be a name, so want of depth shows behind it.
+        if begins_minus(tokens) {
+            if !allows(limit, 2) {
+                return Err(Fault::At(next.len()));
+            }
+            return read_inside(alloc, tokens, limit, operand);
+        }
+        if !allows(limit, 1) {
+            return Err(Fault::At(next.len()));
+        }
+        return read_section(alloc, tokens, limit, operand);
+    }
+    if !allows(limit, 1) {
+        return Err(Fault::At(tokens.len()));
+    }
+    if begins_backquote(tokens) {
+        read_section(alloc, tokens, limit, operand)
+    } else {
+        read_inside(alloc, tokens, limit, operand)
+    }
+}
+
+/// What is in round brackets.
+fn bracketed(alloc: Global, front: Front, more: Items<ExpTree>) -> Result<AExpTree, AllocError>
+    ensures { (inside : Inside) → bunch_of inside ≡ (front, more) → IfOk result (λ tree. tree ≡ make_inside inside) }
+{
+    match front {
+        Front::Exp(exp) => {
+            let first = Boxed::new(alloc, exp)?;
+            Ok(AExpTree::Parts(first, more))
+        }
+        Front::Section(chain, op) => {
+            let chain = Boxed::new(alloc, chain)?;
+            Ok(AExpTree::LeftSection(chain, op))
+        }
+    }
+}
+
+/// An expression in round brackets, a tuple or a left section, after its `(`.
+fn read_inside<'a, F: Fn(&[Terminal], Option<usize>) -> Result<Read<'_, OperandTree>, Fault>>(
+    alloc: Global,
+    tokens: &'a [Terminal],
+    limit: Option<usize>,
+    operand: &F,
+) -> Result<Read<'a, AExpTree>, Fault>
+    requires opens { OpensInside limit tokens.now }
+    requires may { (here : _) (l : _) → length here.now ≤ length tokens.now → F.pre operand.now here l }
+    requires says { (here : _) (l : _) (r : _) → F.post operand.now here l r → Answers (sort_of operands l) here.now r }
+    ensures { Answers (sort_of aexps limit) (LeftParen ∷ tokens.now) result }
+{
+    let inner = read_bunch(alloc, tokens, lower(limit, 1), operand)?;
+    let Some(rest) = after_right_paren(inner.rest) else {
+        return Err(Fault::At(inner.rest.len()));
+    };
+    let (front, more) = inner.tree;
+    let tree = bracketed(alloc, front, more)?;
+    Ok(Read {
+        tree,
+        rest,
+        depth: inner.depth + 1,
+    })
+}
+
+/// `qop infix ")"`, after its `(`.
+fn read_section<'a, F: Fn(&[Terminal], Option<usize>) -> Result<Read<'_, OperandTree>, Fault>>(
+    alloc: Global,
+    tokens: &'a [Terminal],
+    limit: Option<usize>,
+    operand: &F,
+) -> Result<Read<'a, AExpTree>, Fault>
+    requires room { Within limit 1 }
+    requires opens { OpensSection tokens.now }
+    requires may { (here : _) (l : _) → length here.now ≤ length tokens.now → F.pre operand.now here l }
+    requires says { (here : _) (l : _) (r : _) → F.post operand.now here l r → Answers (sort_of operands l) here.now r }
+    ensures { Answers (sort_of aexps limit) (LeftParen ∷ tokens.now) result }
+{
+    let op = read_qop(alloc, tokens)?;
+    let chain = read_infix(alloc, op.rest, lower(limit, 1), operand)?;
+    let Some(rest) = after_right_paren(chain.rest) else {
+        return Err(Fault::At(chain.rest.len()));
+    };
+    let inner = Boxed::new(alloc, chain.tree)?;
+    Ok(Read {
+        tree: AExpTree::RightSection(op.tree, inner),
+        rest,
+        depth: chain.depth + 1,
+    })
+}
+
+/// An `aexp` after its `[`.
+fn read_bracket<'a, F: Fn(&[Terminal], Option<usize>) -> Result<Read<'_, OperandTree>, Fault>>(
+    alloc: Global,
+    tokens: &'a [Terminal],
+    limit: Option<usize>,
+    operand: &F,
+) -> Result<Read<'a, AExpTree>, Fault>
+    requires may { (here : _) (l : _) → length here.now ≤ length tokens.now → F.pre operand.now here l }
+    requires says { (here : _) (l : _) (r : _) → F.post operand.now here l r → Answers (sort_of operands l) here.now r }
+    ensures { Answers (sort_of aexps limit) (LeftBracket ∷ tokens.now) result }
+{
+    if let Some(rest) = after_right_bracket(tokens) {
+        return Ok(Read {
+            tree: AExpTree::Con(GConTree::List),
+            rest,
+            depth: 0,
+        });
+    }
+    if !allows(limit, 1) {
+        return Err(Fault::At(tokens.len()));
+    }
+    let inner = read_parts(alloc, tokens, lower(limit, 1), operand)?;
+    let Some(rest) = after_right_bracket(inner.rest) else {
+        return Err(Fault::At(inner.rest.len()));
+    };
+    let (first, more) = inner.tree;
+    let first = Boxed::new(alloc, first)?;
+    Ok(Read {
+        tree: AExpTree::List(first, more),
+        rest,
+        depth: inner.depth + 1,
+    })
+}
