@@ -1,4 +1,3 @@
-pub mod TokenLemmas
 pub mod GuardListLemmas
 pub mod EndsLemmas
 pub mod PartsLemmas

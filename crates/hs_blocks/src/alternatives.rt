@@ -12,7 +12,8 @@ ghost use Rattle.hs_block_forms.proofs.BodyLemmas.{items_chain};
 ghost use Rattle.hs_block_forms.proofs.ItemLayerLemmas.{from_block};
 
 use crate::bodies::read_alt;
-use crate::leaf::{after_left_brace, after_right_brace, begins_lpat, begins_semicolon};
+use crate::leaf::begins_lpat;
+use hs_block_forms::{after_left_brace, after_right_brace, begins_semicolon};
 use hs_forms::Fault;
 use hs_modules::{AltBlock, AltSlot, DeclBlock, OperandTree};
 use hs_readers::{Chained, Read, after, read_chain};

@@ -2,8 +2,8 @@
 ghost use Rattle.std.specs.Prelude.{◌≡◌, ◌∷◌, MatchOption, false};
 ghost use Rattle.hs_forms.specs.Reading.{begins};
 ghost use Rattle.hs_trees.specs.Patterns.{starts_lpat};
-ghost use Rattle.hs_tokens.specs.declared.terminal.Terminal.TheVariants.{Equals, LeftArrow, LeftBrace, RightBrace};
-ghost use Rattle.hs_block_forms.specs.Blocks.{is_bar, is_equals, is_left_arrow, is_left_brace, is_right_brace, is_semicolon, is_where};
+ghost use Rattle.hs_tokens.specs.declared.terminal.Terminal.TheVariants.{Equals, LeftArrow};
+ghost use Rattle.hs_block_forms.specs.Blocks.{is_bar, is_equals, is_left_arrow, is_where};
 ghost use Rattle.hs_block_forms.proofs.GuardLemmas.{past};
 
 use hs_readers::{after_minus, begins_apat};
@@ -29,38 +29,11 @@ pub fn after_left_arrow(tokens: &[Terminal]) -> Option<&[Terminal]>
     }
 }
 
-/// What stands after a `{`.
-pub fn after_left_brace(tokens: &[Terminal]) -> Option<&[Terminal]>
-    ensures { MatchOption result (begins is_left_brace tokens.now ≡ false) (λ rest. tokens.now ≡ LeftBrace ∷ rest.now) }
-{
-    match tokens.split_first() {
-        Some((Terminal::LeftBrace, rest)) => Some(rest),
-        _ => None,
-    }
-}
-
-/// What stands after a `}`.
-pub fn after_right_brace(tokens: &[Terminal]) -> Option<&[Terminal]>
-    ensures { MatchOption result (begins is_right_brace tokens.now ≡ false) (λ rest. tokens.now ≡ RightBrace ∷ rest.now) }
-{
-    match tokens.split_first() {
-        Some((Terminal::RightBrace, rest)) => Some(rest),
-        _ => None,
-    }
-}
-
 /// Whether a `|` stands here.
 pub fn begins_bar(tokens: &[Terminal]) -> bool
     ensures { result ≡ begins is_bar tokens.now }
 {
     matches!(tokens.first(), Some(Terminal::Bar))
-}
-
-/// Whether a `;` stands here.
-pub fn begins_semicolon(tokens: &[Terminal]) -> bool
-    ensures { result ≡ begins is_semicolon tokens.now }
-{
-    matches!(tokens.first(), Some(Terminal::Semicolon))
 }
 
 /// Whether a `where` stands here.

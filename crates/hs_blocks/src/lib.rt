@@ -12,7 +12,4 @@ pub use alternatives::{AltItems, read_alt_block};
 pub use bodies::{AltParts, Gdas, Gds, RhsParts, read_alt, read_rhs};
 pub use ends::ends_in_type;
 pub use guards::{GuardParts, read_gd, read_gda, read_guard, read_guards};
-pub use leaf::{
-    after_equals, after_left_arrow, after_left_brace, after_right_brace, begins_bar, begins_lpat,
-    begins_semicolon, begins_where, goes_past,
-};
+pub use leaf::{after_equals, after_left_arrow, begins_bar, begins_lpat, begins_where, goes_past};

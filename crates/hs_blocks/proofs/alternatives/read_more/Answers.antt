@@ -3,7 +3,7 @@ use Rattle.hs_tokens.specs.declared.terminal.Terminal.TheVariants as t
 use Rattle.hs_readers.specs.Answers.{Answers}
 use Rattle.hs_expression_forms.specs.Trees.{sort_of, behind_token}
 use Rattle.hs_block_forms.specs.Blocks.{alt_slots}
-use Rattle.hs_blocks.proofs.TokenLemmas.{semicolon_led}
+use Rattle.hs_block_forms.proofs.TokenLemmas.{semicolon_led}
 use Rattle.hs_blocks.proofs.alternatives.read_more.Goals as goal
 
 pub returns : goal.returns

@@ -5,7 +5,7 @@ use Rattle.hs_tokens.specs.declared.word.Word.TheVariants as w
 use Rattle.hs_expression_forms.specs.Trees.{Took, Failed}
 use Rattle.hs_expression_forms.specs.Expressions.{decl_blocks}
 use Rattle.hs_block_forms.proofs.BodyLemmas.{where_failed, where_took}
-use Rattle.hs_blocks.proofs.TokenLemmas.{where_led}
+use Rattle.hs_block_forms.proofs.TokenLemmas.{where_led}
 use Rattle.hs_blocks.proofs.bodies.read_where.Goals as goal
 
 pub returns-in_err-decls : goal.returns-in_err-decls

@@ -2,7 +2,7 @@ use Rattle.std.proofs.Common.{◌∷◌, ◌∙◌, ap, sym}
 use Rattle.std.proofs.lemmas.Result.{err_from_is_err_and}
 use Rattle.hs_tokens.specs.declared.terminal.Terminal.TheVariants as t
 use Rattle.hs_block_forms.proofs.BodyLemmas.{gd_guards_failed}
-use Rattle.hs_blocks.proofs.TokenLemmas.{bar_led}
+use Rattle.hs_block_forms.proofs.TokenLemmas.{bar_led}
 use Rattle.hs_blocks.proofs.guards.read_gd.Goals as goal
 
 pub returns-in_err-guards : goal.returns-in_err-guards
