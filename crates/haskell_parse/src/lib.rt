@@ -2,12 +2,18 @@
 //! spell, or the least index at which they can spell none.
 #![tactic(auto)]
 
+mod parse_exps;
 mod parse_kinds;
+mod parse_modules;
 mod parse_pats;
 mod parse_types;
 mod reading;
 
+pub use parse_exps::parse_exp;
 pub use parse_kinds::{one_kind, parse_kind};
+pub use parse_modules::{
+    Modules, Signatures, SourceItems, parse_items, parse_module, parse_signature,
+};
 pub use parse_pats::{no_bind, one_pat, parse_pat};
 pub use parse_types::{one_type, parse_type};
 pub use reading::{Readable, Unambiguous, one_tree, parse};

@@ -10,7 +10,8 @@ fn is_reserved(word: &[u8]) -> bool {
     match word {
         b"type" | b"data" | b"newtype" | b"module" | b"where" | b"import" => true,
         b"let" | b"in" | b"if" | b"then" | b"else" | b"case" | b"of" => true,
-        b"infixl" | b"infixr" | b"infix" | b"=" | b"->" | b"<-" | b"::" | b":" | b"|" => true,
+        b"infixl" | b"infixr" | b"infix" | b"=" | b"->" | b"<-" | b"::" | b":" | b"|" | b".." =>
+            true,
         b"\\" | b"@" | b"~" | b"_" => true,
         _ => false,
     }
@@ -77,10 +78,7 @@ enum Part {
     Items,
 }
 
-fn spelled<T: Drop>(
-    alloc: Global,
-    parsed: Result<T, ParseError>,
-) -> Result<String, AllocError> {
+fn spelled<T: Drop>(alloc: Global, parsed: Result<T, ParseError>) -> Result<String, AllocError> {
     match parsed {
         Ok(_) => format!(in alloc; "tree"),
         Err(ParseError::Syntax { index }) => format!(in alloc; "syntax {index}"),
@@ -98,18 +96,21 @@ fn answer_for(alloc: Global, part: Part, tokens: &Tokens) -> Result<String, Allo
     }
 }
 
-/// The first row that is not right, with the answer that was found: a row is an answer and the words that have it.
-fn wrong_row(alloc: Global, part: Part, rows: &str) -> Result<String, AllocError> {
+/// The rows that are not right, each with the answer that was found: a row is an answer and the words that have it.
+fn wrong_rows(alloc: Global, part: Part, rows: &str) -> Result<String, AllocError> {
+    let mut wrong = String::new(alloc);
     for row in rows.lines() {
         let (want, text) = row.split_once('|').unwrap_or(("", ""));
         let tokens = nested(alloc, 0, "", text, "")?;
         let found = answer_for(alloc, part, &tokens)?;
         if found.as_str() != want {
-            let found = found.as_str();
-            return format!(in alloc; "{row}: {found}");
+            wrong.push_str(row)?;
+            wrong.push_str(": ")?;
+            wrong.push_str(found.as_str())?;
+            wrong.push_str("\n")?;
         }
     }
-    format!(in alloc; "")
+    Ok(wrong)
 }
 
 #[test]
@@ -124,6 +125,7 @@ tree|'c' \"s\"
 tree|( )
 tree|( , , )
 tree|( + )
+tree|( - )
 tree|( :+ )
 tree|( : )
 tree|[ ]
@@ -178,12 +180,10 @@ syntax 2|( x
 syntax 3|( x ,
 syntax 3|( x , )
 syntax 3|( x + , y )
-syntax 4|( + x ,
-syntax 2|( - )
+syntax 3|( + x ,
 syntax 2|[ x
 syntax 3|[ x , ]
-syntax 2|x ` f
-syntax 2|x ` T.
+syntax 3|x ` f
 syntax 1|\\ -> y
 syntax 2|\\ x
 syntax 3|\\ x ->
@@ -191,19 +191,20 @@ syntax 2|if x
 syntax 4|if x then y
 syntax 4|if x then y ; else z
 syntax 1|let x
-syntax 4|let { x } in y
+syntax 3|let { x } in y
 syntax 6|let { x = y }
 syntax 6|let { x = y } of
 syntax 3|case x of
 syntax 4|case x of {
 syntax 5|case x of { y }
 syntax 6|case x of { y -> }
-syntax 9|case x of { y | z :: T -> w }
+syntax 7|case x of { y | z :: T -> w }
+syntax 14|case x of { y | \\ z -> w :: T -> v }
 syntax 2|x ::
 syntax 3|x :: T + y
-syntax 2|f \\ x -> y
+syntax 1|f \\ x -> y
 ";
-    let wrong = wrong_row(alloc, Part::Exp, rows)?;
+    let wrong = wrong_rows(alloc, Part::Exp, rows)?;
     assert_eq!(rt; wrong.as_str(), "");
     Ok(())
 }
@@ -227,19 +228,19 @@ syntax 1|{ = }
 syntax 2|{ x }
 syntax 2|{ x ; }
 syntax 3|{ x = }
-syntax 5|{ x = y import M }
+syntax 4|{ x = y import M }
 syntax 5|{ x = y ; import M }
 syntax 3|{ f x }
-syntax 4|{ f x , y :: T }
+syntax 3|{ f x , y :: T }
 syntax 2|{ C }
 syntax 2|{ T :: U }
-syntax 5|{ x = y ) }
+syntax 4|{ x = y ) }
 syntax 2|module M { }
 syntax 4|module M where {
 syntax 5|module M where { } }
 syntax 5|{ x = y } z
 ";
-    let wrong = wrong_row(alloc, Part::Module, rows)?;
+    let wrong = wrong_rows(alloc, Part::Module, rows)?;
     assert_eq!(rt; wrong.as_str(), "");
     Ok(())
 }
@@ -252,10 +253,10 @@ tree|{ }
 tree|{ x = y }
 tree|signature S where { x :: T }
 syntax 1|{ = }
-syntax 6|signature S where { x = y }
+syntax 5|signature S where { x = y }
 syntax 0|where
 ";
-    let wrong = wrong_row(alloc, Part::Items, rows)?;
+    let wrong = wrong_rows(alloc, Part::Items, rows)?;
     assert_eq!(rt; wrong.as_str(), "");
     let rows = "\
 tree|signature S where { }
@@ -263,7 +264,7 @@ syntax 0|module M where { }
 syntax 0|{ }
 syntax 1|signature
 ";
-    let wrong = wrong_row(alloc, Part::Signature, rows)?;
+    let wrong = wrong_rows(alloc, Part::Signature, rows)?;
     assert_eq!(rt; wrong.as_str(), "");
     Ok(())
 }
