@@ -1,2 +1,0 @@
-pub mod NoneLemmas
-pub mod PartLemmas
