@@ -8,4 +8,5 @@ returns-in_err-read g c =
     rw (p.1, p.2) (apply_failed c.args.limit c.args.tokens.now _ c.requires.starts c.in_err-read.ensures)
 
 pub returns : goal.returns
-returns g c = apply_took c.args.limit c.args.tokens.now c.in_ok-read.read.tree _ _ c.in_ok-read.ensures
+returns g c =
+    rw c.applied.ensures (apply_took c.args.limit c.args.tokens.now c.in_ok-read.read.tree _ _ c.in_ok-read.ensures)
