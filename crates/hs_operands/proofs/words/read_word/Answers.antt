@@ -26,22 +26,26 @@ returns-in_default-first c = λ limit.
 
 pub returns-in_ok-from_bytes-in-Var : goal.returns-in_ok-from_bytes-in-Var
 returns-in_ok-from_bytes-in-Var c = λ limit.
-    rw (c.in_ok-from_bytes-in-Var.ensures, c.as_bytes.ensures) (var_took limit c.args.tokens.now c.in-Var.name c.in-Some.rest.now
+    rw (c.in_ok-from_bytes-in-Var.ensures, c.as_bytes.ensures) (var_took limit c.args.tokens.now c.in-Var.name
+    c.in-Some.rest.now
     (c.in-Some.ensures.cases.0 ∙ ap (λ k. k ∷ c.in-Some.rest.now) c.in-Var.is))
 
 pub returns-in_ok-from_bytes-in-QVar : goal.returns-in_ok-from_bytes-in-QVar
 returns-in_ok-from_bytes-in-QVar c = λ limit.
-    rw (c.in_ok-from_bytes-in-QVar.ensures, c.as_bytes-in-QVar.ensures) (qvar_took limit c.args.tokens.now c.in-QVar.name c.in-Some.rest.now
+    rw (c.in_ok-from_bytes-in-QVar.ensures, c.as_bytes-in-QVar.ensures) (qvar_took limit c.args.tokens.now
+    c.in-QVar.name c.in-Some.rest.now
     (c.in-Some.ensures.cases.0 ∙ ap (λ k. k ∷ c.in-Some.rest.now) c.in-QVar.is))
 
 pub returns-in_ok-from_bytes-in-Con : goal.returns-in_ok-from_bytes-in-Con
 returns-in_ok-from_bytes-in-Con c = λ limit.
-    rw (c.in_ok-from_bytes-in-Con.ensures, c.as_bytes-in-Con.ensures) (con_took limit c.args.tokens.now c.in-Con.name c.in-Some.rest.now
+    rw (c.in_ok-from_bytes-in-Con.ensures, c.as_bytes-in-Con.ensures) (con_took limit c.args.tokens.now c.in-Con.name
+    c.in-Some.rest.now
     (c.in-Some.ensures.cases.0 ∙ ap (λ k. k ∷ c.in-Some.rest.now) c.in-Con.is))
 
 pub returns-in_ok-copied-in-Integer : goal.returns-in_ok-copied-in-Integer
 returns-in_ok-copied-in-Integer c = λ limit.
-    rw c.in_ok-copied-in-Integer.ensures (literal_took limit c.args.tokens.now (l.Integer c.in-Integer.text) c.in-Some.rest.now
+    rw c.in_ok-copied-in-Integer.ensures (literal_took limit c.args.tokens.now (l.Integer c.in-Integer.text)
+    c.in-Some.rest.now
     (c.in-Some.ensures.cases.0 ∙ ap (λ k. k ∷ c.in-Some.rest.now) c.in-Integer.is))
 
 pub returns-in_ok-copied-in-Char : goal.returns-in_ok-copied-in-Char
