@@ -1,0 +1,9 @@
+use Rattle.std.proofs.lemmas.Result.{err_from_is_err_and}
+use Rattle.hs_forms.proofs.StateLemmas.{state_head_fails}
+use Rattle.hs_operand_forms.proofs.ListLemmas.{arguments_chain}
+use Rattle.hs_operands.proofs.lists.read_arguments.Goals as goal
+
+pub returns-in_err-head : goal.returns-in_err-head
+returns-in_err-head g c =
+    let p = err_from_is_err_and c.from_residual.result c.from_residual.ensures.1 in
+    rw (p.1, p.2) (state_head_fails (arguments_chain c.args.limit) c.args.tokens.now _ c.in_err-head.ensures)
