@@ -23,5 +23,6 @@ returns-in_err-guarded g c =
 
 pub returns : goal.returns
 returns g c =
-    rw (c.guarded_arrows.ensures.tree, c.guarded_arrows.ensures.rest, c.guarded_arrows.ensures.depth) (arrows_took c.args.limit c.args.tokens.now
-    (sym c.begins_bar.ensures ∙ c.if-not-begins_bar.false) _ _ _ c.in_ok-guarded.ensures)
+    rw (c.guarded_arrows.ensures.tree, c.guarded_arrows.ensures.rest, c.guarded_arrows.ensures.depth)
+    (arrows_took c.args.limit c.args.tokens.now (sym c.begins_bar.ensures ∙ c.if-not-begins_bar.false) _ _ _
+    c.in_ok-guarded.ensures)
