@@ -24,4 +24,5 @@ returns g c =
     where_took c.args.limit c.args.tokens.now c.after.result.now c.in_ok-decls.decls.tree
     c.in_ok-decls.decls.rest.now c.in_ok-decls.decls.depth led
     (subst (λ l. Took decl_blocks l c.after.result.now c.in_ok-decls.decls.tree c.in_ok-decls.decls.rest.now
-    c.in_ok-decls.decls.depth) c.lower.ensures (c.requires.says_decls c.after.result c.lower.result _ c.in_ok-decls.ensures))
+    c.in_ok-decls.decls.depth) c.lower.ensures
+    (c.requires.says_decls c.after.result c.lower.result _ c.in_ok-decls.ensures))
