@@ -6,6 +6,7 @@ use Rattle.hs_modules.specs.Formed.{Facts, facts_of_guard, last_of}
 use Rattle.hs_modules.specs.declared.expressions.GuardTree.{GuardTree}
 use Rattle.hs_block_forms.specs.Blocks.{guards_fit}
 
+-- the last guard of a list, by its index
 last_at : (f : Facts) (xs : List GuardTree) (x : GuardTree) → slice_get xs (length xs - 1) ≡ Some x →
     facts_of_guard x ≡ last_of f (map facts_of_guard xs)
 last_at f [] x e = absurd (none e)
@@ -20,6 +21,7 @@ last_at f (y ∷ z ∷ xs) x e =
     let n : length (y ∷ z ∷ xs) - 1 ≡ suc (length (z ∷ xs) - 1) = omega arith in
     last_at (facts_of_guard y) (z ∷ xs) x (ap (slice_get (y ∷ z ∷ xs)) (sym n) ∙ e)
 
+-- a list without a last guard is empty
 last_none : (f : Facts) (xs : List GuardTree) → slice_get xs (length xs - 1) ≡ None →
     f ≡ last_of f (map facts_of_guard xs)
 last_none f [] e = refl

@@ -18,10 +18,11 @@ use Rattle.hs_expression_forms.proofs.ListedLemmas.{few_within}
 use Rattle.hs_block_forms.specs.Blocks.{alt_parts, alt_slots, is_left_brace, rhs_parts}
 use Rattle.hs_block_forms.proofs.ItemLayerLemmas.{alt_places}
 
--- at most one `where` stands behind a body
+-- at most one `where` stands behind the body of a right side
 pub rhs_short : (p : RhsBody × List DeclBlock) → rhs_parts.formed p ≡ true → length p.1 ≤ 1
 rhs_short p good = few_within (Some 1) (length p.1) (and_left (few (Some 1) (length p.1)) _ good)
 
+-- at most one `where` stands behind the body of an alternative
 pub alt_short : (p : AltBody × List DeclBlock) → alt_parts.formed p ≡ true → length p.1 ≤ 1
 alt_short p good = few_within (Some 1) (length p.1) (and_left (few (Some 1) (length p.1)) _ good)
 

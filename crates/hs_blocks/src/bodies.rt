@@ -1,5 +1,5 @@
-//! Right sides and the right sides of alternatives, with their `where` (Haskell 2010 Report, sections 3.13 and 4.4.3), of
-//! operands and declarations that readers are given for.
+//! Right sides and the right sides of alternatives, with their `where` (Haskell 2010 Report, sections 3.13 and 4.4.3),
+//! of operands and declarations that readers are given for.
 ghost use Rattle.std.specs.Prelude.{◌↔◌, IsTrue, max, map, ◌≡◌, ◌∷◌, ◌<◌, ◌≤◌, ◌+◌, ◌^◌, ℕ, Option, length, true, false};
 ghost use Rattle.hs_forms.specs.Reading.{begins};
 ghost use Rattle.hs_forms.specs.Limits.{deepest};

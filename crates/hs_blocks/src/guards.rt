@@ -1,4 +1,4 @@
-//! Guards and guarded expressions (Haskell 2010 Report, sections 3.13 and 4.4.3.1), of operands that a reader is given for.
+//! Guards and guarded expressions (Haskell 2010 Report, sections 3.13 and 4.4.3.1), of operands a reader is given for.
 ghost use Rattle.std.specs.Prelude.{◌↔◌, IsTrue, max, map, ◌≡◌, ◌∷◌, ◌<◌, ◌≤◌, ◌+◌, ◌^◌, ℕ, Option, IfOk, MatchOption, length, true, false};
 ghost use Rattle.hs_forms.specs.Answers.{Rejects};
 ghost use Rattle.hs_forms.specs.Reading.{begins};

@@ -1,5 +1,5 @@
-//! Readers of guards, right sides and blocks of alternatives (Haskell 2010 Report, sections 3.13 and 4.4.3). Each is given the
-//! readers of operands and of blocks of declarations.
+//! Readers of guards, right sides and blocks of alternatives (Haskell 2010 Report, sections 3.13 and 4.4.3).
+//! Each is given the readers of operands and of blocks of declarations.
 #![tactic(auto)]
 
 mod alternatives;

@@ -18,10 +18,11 @@ returns-then-not-begins_bar g c =
 pub returns-in_err-guarded : goal.returns-in_err-guarded
 returns-in_err-guarded g c =
     let p = err_from_is_err_and c.from_residual-in_err-guarded.result c.from_residual-in_err-guarded.ensures.1 in
-    rw (p.1, p.2) (guarded_failed c.args.limit c.args.tokens.now (sym c.begins_bar.ensures ∙ c.if-not-begins_bar.false) _
-    c.in_err-guarded.ensures)
+    rw (p.1, p.2) (guarded_failed c.args.limit c.args.tokens.now
+    (sym c.begins_bar.ensures ∙ c.if-not-begins_bar.false) _ c.in_err-guarded.ensures)
 
 pub returns : goal.returns
 returns g c =
-    rw (c.guarded_equals.ensures.tree, c.guarded_equals.ensures.rest, c.guarded_equals.ensures.depth) (guarded_took c.args.limit c.args.tokens.now
-    (sym c.begins_bar.ensures ∙ c.if-not-begins_bar.false) _ _ _ c.in_ok-guarded.ensures)
+    rw (c.guarded_equals.ensures.tree, c.guarded_equals.ensures.rest, c.guarded_equals.ensures.depth)
+    (guarded_took c.args.limit c.args.tokens.now (sym c.begins_bar.ensures ∙ c.if-not-begins_bar.false) _ _ _
+    c.in_ok-guarded.ensures)

@@ -15,7 +15,7 @@ returns-in_err-decls g c =
     let p = err_from_is_err_and c.from_residual.result c.from_residual.ensures.1 in
     rw (p.1, p.2) (where_failed c.args.limit c.args.tokens.now c.after.result.now c.in_err-decls.field-0.0 led
     (subst (λ l. Failed decl_blocks l c.after.result.now c.in_err-decls.field-0.0) c.lower.ensures
-    (c.requires.says_decls _ _ _ c.in_err-decls.ensures)))
+    (c.requires.says_decls c.after.result c.lower.result _ c.in_err-decls.ensures)))
 
 pub returns : goal.returns
 returns g c =
@@ -24,4 +24,5 @@ returns g c =
     where_took c.args.limit c.args.tokens.now c.after.result.now c.in_ok-decls.decls.tree
     c.in_ok-decls.decls.rest.now c.in_ok-decls.decls.depth led
     (subst (λ l. Took decl_blocks l c.after.result.now c.in_ok-decls.decls.tree c.in_ok-decls.decls.rest.now
-    c.in_ok-decls.decls.depth) c.lower.ensures (c.requires.says_decls _ _ _ c.in_ok-decls.ensures))
+    c.in_ok-decls.decls.depth) c.lower.ensures
+    (c.requires.says_decls c.after.result c.lower.result _ c.in_ok-decls.ensures))
