@@ -246,6 +246,102 @@ syntax 5|{ x = y } z
 }
 
 #[test]
+fn declarations(rt: HostRuntime) -> Result<(), Fail> {
+    let alloc = rt.alloc();
+    let rows = "\
+tree|{ data T }
+tree|{ data T a b }
+syntax 3|{ data T :: * }
+tree|{ data T = C }
+tree|{ data T = C a b }
+tree|{ data T = C ! a b }
+tree|{ data T = C a ! b }
+tree|{ data T = a :+ b }
+tree|{ data T = ! a :+ b }
+tree|{ data T = ! a :+ ! b }
+tree|{ data T = C a :+ b }
+tree|{ data T = M.C a :+ b }
+tree|{ data T = [ a ] :+ b }
+tree|{ data T = ( :+ ) a }
+tree|{ data T = C a ` D ` b }
+tree|{ data T = C | D a }
+tree|{ data T = C a :+ b | ! a :* b }
+syntax 7|{ data T = a :+ b :* c }
+syntax 2|{ data }
+syntax 2|{ data t }
+syntax 2|{ data M.T }
+syntax 4|{ data T = }
+syntax 4|{ data T = :+ a }
+syntax 4|{ data T = | }
+syntax 5|{ data T = ! ! a }
+syntax 5|{ data T = M.C }
+syntax 5|{ data T = a }
+syntax 5|{ data T = ! :+ b }
+syntax 5|{ data T = ( + ) a }
+syntax 6|{ data T = ! a }
+syntax 6|{ data T = a :+ }
+syntax 6|{ data T = a :+ | }
+syntax 6|{ data T = C ! ! a }
+syntax 6|{ data T = C ! }
+syntax 7|{ data T = C ! a :+ b }
+syntax 5|{ data T = C M.:+ b }
+syntax 6|{ data T = C ` M.D ` b }
+syntax 7|{ data T = C ( a }
+syntax 6|{ data T = C | }
+tree|{ data T = C ( ( a ) ) }
+tree|{ newtype T = C a }
+tree|{ newtype T a = ( :+ ) a }
+syntax 6|{ newtype T = C a b }
+syntax 2|{ newtype }
+syntax 3|{ newtype T }
+syntax 4|{ newtype T a }
+syntax 4|{ newtype T = }
+syntax 4|{ newtype T = M.C a }
+syntax 5|{ newtype T = C }
+syntax 5|{ newtype T = C ! a }
+tree|{ type T = U }
+syntax 3|{ type T }
+tree|{ x :: T }
+tree|{ x , y :: T }
+tree|{ ( + ) :: T }
+tree|{ ( + ) , x :: M.T a }
+syntax 4|{ x :: T = U }
+syntax 2|{ T :: U }
+syntax 4|{ ( T ) :: U }
+syntax 3|{ ( + :: T }
+syntax 2|{ x }
+syntax 3|{ x y :: T }
+syntax 3|{ x , }
+syntax 3|{ x , T :: U }
+syntax 4|{ x , y = T }
+syntax 3|{ x :: }
+syntax 3|{ x :: = }
+syntax 5|{ x :: a -> }
+tree|{ x :: a -> b -> c }
+tree|{ infixl + }
+tree|{ infixl 6 + }
+tree|{ infixr 5 :+ , - }
+tree|{ infix 4 ` f ` }
+tree|{ infix 4 ` T ` }
+syntax 4|{ infixl 6 + x }
+syntax 2|{ infixl }
+syntax 2|{ infixl 12 + }
+syntax 2|{ infixl 0x5 + }
+syntax 3|{ infixl 6 }
+syntax 3|{ infixl 6 7 }
+syntax 3|{ infixl 6 x }
+syntax 3|{ infixl 6 M.:+ }
+syntax 3|{ infixl 6 : }
+syntax 4|{ infixl 6 ` M.T ` }
+syntax 5|{ infixl 6 ` f + }
+syntax 5|{ infixl 6 + , }
+";
+    let wrong = wrong_rows(alloc, Part::Module, rows)?;
+    assert_eq!(rt; wrong.as_str(), "");
+    Ok(())
+}
+
+#[test]
 fn modules_and_signatures(rt: HostRuntime) -> Result<(), Fail> {
     let alloc = rt.alloc();
     let rows = "\
@@ -263,6 +359,36 @@ tree|signature S where { }
 syntax 0|module M where { }
 syntax 0|{ }
 syntax 1|signature
+tree|signature S where { ; }
+tree|signature M.S where { import M }
+tree|signature S where { import M ; }
+tree|signature S where { import M ; x :: T }
+tree|signature S where { import M ; ; x :: T ; }
+tree|signature S where { import M ; ; import N ; x :: T ; }
+tree|signature S where { data T ; data U :: * ; data V a = C a ; newtype W = D a ; type X = T ; x :: T ; infixl 6 + ; ; }
+syntax 5|signature S where { } }
+syntax 0|
+syntax 0|module S where { }
+syntax 1|signature s where { }
+syntax 2|signature S { }
+syntax 3|signature S where
+syntax 3|signature S where x :: T
+syntax 4|signature S where {
+syntax 4|signature S where { =
+syntax 5|signature S where { ; =
+syntax 5|signature S where { x = y }
+syntax 5|signature S where { x }
+syntax 5|signature S where { f x = y }
+syntax 4|signature S where { T = x }
+syntax 6|signature S where { import M = }
+syntax 6|signature S where { import M x :: T }
+syntax 6|signature S where { data T ( }
+syntax 7|signature S where { data T :: U }
+syntax 7|signature S where { data T a :: * }
+syntax 8|signature S where { x :: T ; import M }
+syntax 9|signature S where { x :: T ; ; import M }
+syntax 8|signature S where { x :: T y = z }
+syntax 7|signature S where { x :: T
 ";
     let wrong = wrong_rows(alloc, Part::Signature, rows)?;
     assert_eq!(rt; wrong.as_str(), "");
@@ -270,35 +396,36 @@ syntax 1|signature
 }
 
 #[test]
-fn as_deep_as_may_be(rt: HostRuntime) -> Result<(), Fail> {
+fn chains_have_200_operators(rt: HostRuntime) -> Result<(), Fail> {
+    let alloc = rt.alloc();
+    let tokens = nested(alloc, 200, "x +", "x", "")?;
+    let found = answer_for(alloc, Part::Exp, &tokens)?;
+    assert_eq!(rt; found.as_str(), "tree");
+    let tokens = nested(alloc, 201, "x +", "x", "")?;
+    let found = answer_for(alloc, Part::Exp, &tokens)?;
+    assert_eq!(rt; found.as_str(), "deep 401");
+    Ok(())
+}
+
+#[test]
+fn brackets_lists_and_blocks_nest(rt: HostRuntime) -> Result<(), Fail> {
     let alloc = rt.alloc();
     let rows = "\
 ( |)
 [ |]
 ( - |)
-- |
 \\ x -> |
-if x then y else |
 f ( |)
 let { } in |
 case |of { }
 case x of { y -> |}
 let { x = |} in y
-( x + |)
-x :: T , |
 ";
     for row in rows.lines() {
         let (front, back) = row.split_once('|').unwrap_or(("", ""));
-        let tokens = nested(alloc, 201, front, "x", back)?;
+        let tokens = nested(alloc, 40, front, "x", back)?;
         let found = answer_for(alloc, Part::Exp, &tokens)?;
-        assert_ne!(rt; found.as_str(), "tree");
-        assert_ne!(rt; found.as_str(), "memory");
+        assert_eq!(rt; found.as_str(), "tree");
     }
-    let tokens = nested(alloc, 199, "(", "x", ")")?;
-    let found = answer_for(alloc, Part::Exp, &tokens)?;
-    assert_eq!(rt; found.as_str(), "tree");
-    let tokens = nested(alloc, 201, "(", "x", ")")?;
-    let found = answer_for(alloc, Part::Exp, &tokens)?;
-    assert_eq!(rt; found.as_str(), "deep 200");
     Ok(())
 }
