@@ -1,5 +1,5 @@
 -- Where no operand begins.
-use Rattle.std.proofs.Common.{◌≡◌, true, false, [], ◌∷◌, refl, true≢false}
+use Rattle.std.proofs.Common.{◌≡◌, false, [], ◌∷◌, refl, true≢false}
 use Rattle.hs_forms.specs.Reading.{begins}
 use Rattle.hs_tokens.specs.declared.terminal.Terminal.TheVariants as t
 use Rattle.hs_tokens.specs.declared.word.Word.TheVariants as w

@@ -2,7 +2,6 @@
 use Rattle.std.proofs.Common.{◌∙◌, refl, sym, true≢false, arith}
 use Rattle.std.proofs.lemmas.Result.{err_from_is_err_and}
 use Rattle.hs_tokens.specs.declared.terminal.Terminal.TheVariants as t
-use Rattle.hs_tokens.specs.declared.word.Word.TheVariants as w
 use Rattle.hs_expression_forms.proofs.OperandLayerLemmas.{make_lambda}
 use Rattle.hs_expression_forms.proofs.OperandLemmas.{lambda_makes}
 use Rattle.hs_expression_forms.proofs.RowLemmas.{exp_follows}
