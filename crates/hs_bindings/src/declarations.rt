@@ -5,8 +5,7 @@ ghost use Rattle.hs_readers.specs.Answers.{Answers};
 ghost use Rattle.hs_expression_forms.specs.Trees.{sort_of, within};
 ghost use Rattle.hs_expression_forms.specs.Expressions.{decl_blocks, operands};
 ghost use Rattle.hs_declaration_forms.specs.Typings.{plain_decls};
-ghost use Rattle.hs_binding_forms.specs.Bindings.{bindings, decls};
-ghost use Rattle.hs_binding_forms.proofs.BindingLemmas.{binding_of};
+ghost use Rattle.hs_binding_forms.specs.Bindings.{binding_of, bindings, decls};
 
 use hs_blocks::read_rhs;
 use hs_forms::Fault;
