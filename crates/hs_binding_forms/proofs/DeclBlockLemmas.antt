@@ -2,7 +2,6 @@
 use Rattle.std.proofs.Common.{◌≡◌, ℕ, Bool, true, false, List, [], ◌∷◌, ◌++◌, length, refl, sym, ap, ◌∙◌, subst}
 use Rattle.std.proofs.Common.{true≢false, arith}
 use Rattle.std.specs.Prelude.{max, map, flat_map, not, ◌&&◌, Option, None}
-use Rattle.std.proofs.lemmas.Bool.{and_from}
 use Rattle.std.proofs.lemmas.List.{append-nil}
 use Rattle.std.proofs.lemmas.List.Folds.{flat_map-map}
 use Rattle.hs_forms.specs.Reading.{begins}
@@ -113,11 +112,9 @@ items_end : (p : DeclSlot × List DeclSlot) → decl_items.extends p t.RightBrac
 items_end (h, []) = refl
 items_end (h, x ∷ xs) = refl
 
-least_items : (limit : Option ℕ) → (within decl_items limit).Good (sl.NoDecl, [])
-least_items limit = (
-  and_from _ _ refl (and_from (decl_slots.formed sl.NoDecl) true decl_places.none_formed refl),
-  within_less limit _ 0 (omega (arith, decl_places.none_deep)) (within_zero limit),
-)
+least_slot : (limit : Option ℕ) → (within decl_slots limit).Good sl.NoDecl
+least_slot limit =
+    (decl_places.none_formed, within_less limit _ 0 (omega (arith, decl_places.none_deep)) (within_zero limit))
 
 pub block_took : (limit : Option ℕ) (ts : Ts) (p : DeclSlot × List DeclSlot) (here rest : Ts) (m : ℕ) →
     Took decl_items limit ts p here m → here ≡ t.RightBrace ∷ rest → Took decl_blocks limit ts (from_block p) rest m
@@ -144,15 +141,15 @@ block_missed limit is_right_brace is ts p here m acc missed =
     ts p here m acc missed)
 
 -- no block begins here
-pub items_none : (limit : Option ℕ) (ts : Ts) → begins is_left_brace ts ≡ false →
-    Rejects (within decl_items limit) ts (length ts)
-items_none limit ts off = record {
+pub no_brace : (limit : Option ℕ) (ts : Ts) → begins is_left_brace ts ≡ false →
+    Rejects (within (behind_token t.LeftBrace decl_slots) limit) ts (length ts)
+no_brace limit ts off = record {
   before = [];
   bad = ts;
   split = refl;
   left_is = refl;
   refuses = record {
-    begun = (_, (sl.NoDecl, []), least_items limit, refl);
+    begun = (_, sl.NoDecl, least_slot limit, refl);
     never = λ s other after same good quiet e.
         true≢false (sym (ap (begins is_left_brace) e) ∙ begins_same is_left_brace ts s same ∙ off);
   };

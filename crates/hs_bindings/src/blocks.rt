@@ -3,6 +3,7 @@ ghost use Rattle.std.specs.Prelude.{◌↔◌, IsTrue, max, map, ◌≡◌, ◌�
 ghost use Rattle.hs_forms.specs.Reading.{begins};
 ghost use Rattle.hs_forms.specs.Limits.{deepest};
 ghost use Rattle.hs_tokens.specs.declared.terminal.Terminal.{Terminal};
+ghost use Rattle.hs_tokens.specs.declared.terminal.Terminal.TheVariants.{LeftBrace};
 ghost use Rattle.hs_readers.specs.Answers.{Answers, item_sort};
 ghost use Rattle.hs_expression_forms.specs.Trees.{behind_token, sort_of};
 ghost use Rattle.hs_expression_forms.specs.Expressions.{decl_blocks, operands};
@@ -93,6 +94,30 @@ fn read_decl_slot<
     })
 }
 
+/// A declaration or none, with the `{` before it.
+fn read_first<
+    'a,
+    F: Fn(&[Terminal], Option<usize>) -> Result<Read<'_, OperandTree>, Fault>,
+    D: Fn(&[Terminal], Option<usize>) -> Result<Read<'_, DeclBlock>, Fault>,
+>(
+    alloc: Global,
+    tokens: &'a [Terminal],
+    limit: Option<usize>,
+    operand: &F,
+    block: &D,
+) -> Result<Read<'a, DeclSlot>, Fault>
+    requires may { (here : _) (l : _) → length here.now < length tokens.now → F.pre operand.now here l }
+    requires says { (here : _) (l : _) (r : _) → F.post operand.now here l r → Answers (sort_of operands l) here.now r }
+    requires may_decls { (here : _) (l : _) → length here.now < length tokens.now → D.pre block.now here l }
+    requires says_decls { (here : _) (l : _) (r : _) → D.post block.now here l r → Answers (sort_of decl_blocks l) here.now r }
+    ensures { Answers (sort_of (behind_token LeftBrace decl_slots) limit) tokens.now result }
+{
+    let Some(next) = after_left_brace(tokens) else {
+        return Err(Fault::At(tokens.len()));
+    };
+    read_decl_slot(alloc, next, limit, operand, block)
+}
+
 /// A declaration or none, with the `;` before it.
 fn read_more<
     'a,
@@ -135,10 +160,7 @@ fn read_decl_items<
     requires says_decls { (here : _) (l : _) (r : _) → D.post block.now here l r → Answers (sort_of decl_blocks l) here.now r }
     ensures { Answers (sort_of decl_items limit) tokens.now result }
 {
-    let Some(next) = after_left_brace(tokens) else {
-        return Err(Fault::At(tokens.len()));
-    };
-    let head = read_decl_slot(alloc, next, limit, operand, block)?;
+    let head = read_first(alloc, tokens, limit, operand, block)?;
     read_chain::<DeclItems, _>(
         alloc,
         tokens,

@@ -14,5 +14,5 @@ returns-in_err-right g c =
 
 pub returns : goal.returns
 returns g c =
-    rw c.binding_of.ensures (binding_took c.args.limit c.args.tokens.now _ _ _ c.in_ok-left.ensures _ _ _
+    rw (c.binding_of.ensures, c.max.ensures) (binding_took c.args.limit c.args.tokens.now _ _ _ c.in_ok-left.ensures _ _ _
     c.in_ok-right.ensures)
