@@ -1,5 +1,5 @@
 //! Modules (Haskell 2010 Report, section 5.1).
-ghost use Rattle.std.specs.Prelude.{◌≡◌, ℕ, Option, false};
+ghost use Rattle.std.specs.Prelude.{◌≡◌, ℕ, Option, false, true};
 ghost use Rattle.hs_forms.specs.Reading.{begins};
 ghost use Rattle.hs_forms.specs.Answers.{Accepts};
 ghost use Rattle.hs_headers.specs.Heads.{module_head_form};
