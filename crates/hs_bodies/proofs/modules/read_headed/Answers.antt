@@ -9,4 +9,4 @@ returns-in_err-head c =
 
 pub returns : goal.returns
 returns c =
-    c.headed_if_read.ensures c.args.limit c.args.tokens.now c.requires c.in_ok-head.ensures c.read_top_block.ensures
+    c.headed_if_read.ensures c.args.limit c.args.tokens.now c.requires c.in_ok-head.ensures c.read_top_block-block.ensures
