@@ -1,6 +1,6 @@
 -- A signature, known by its first token, among modules and signatures.
 use Rattle.std.proofs.Common.{◌≡◌, ℕ, Bool, true, false, List, [], ◌∷◌, ◌++◌, refl, sym, ap, ◌∙◌, true≢false}
-use Rattle.std.specs.Prelude.{not, ◌||◌, Option}
+use Rattle.std.specs.Prelude.{not, ◌||◌, Option, Result, Ok, Err}
 use Rattle.hs_forms.specs.Reading.{begins}
 use Rattle.hs_forms.specs.Answers.{Accepts, Fails}
 use Rattle.hs_forms.specs.declared.fault.Fault.{Fault}
@@ -16,6 +16,11 @@ use Rattle.hs_expression_forms.specs.Trees.{Trees}
 use Rattle.hs_expression_forms.proofs.TreesLemmas.{stays_first}
 use Rattle.hs_declaration_forms.proofs.MadeLemmas.{begins_none, stays_off}
 use Rattle.hs_declaration_forms.proofs.MergeLemmas.{Joins, joined_took, joined_failed}
+use Rattle.hs_readers.specs.Answers.{Answers}
+use Rattle.hs_readers.specs.declared.read.Read.{Read}
+use Rattle.hs_signature_forms.specs.Signatures.{signature_sort}
+use Rattle.hs_body_forms.specs.Bodies.{module_sort}
+use Rattle.haskell_parse.specs.Items.{items_sort}
 
 abbrev of_those : (Module → Bool) → Trees Terminal Module
 of_those is = record { tokens = module_tokens; formed = is; deep = depth_of_module; extends = λ x k. false }
@@ -105,3 +110,13 @@ module _ (limit : Option ℕ) (ts : Ts) where
   module_failed off e r =
       joined_failed items (of_those is_module) same (begins_none is_signature_word) modules_join limit ts e
       (stays_off is_signature_word ts off) r
+
+  pub signature_answers : (r : Result (Read Module) Fault) → begins is_signature_word ts ≡ true →
+      Answers (signature_sort limit) ts r → Answers (items_sort limit) ts r
+  signature_answers (Ok r) on a = signature_took r.tree r.rest.now r.depth a
+  signature_answers (Err e) on a = signature_failed on e a
+
+  pub module_answers : (r : Result (Read Module) Fault) → begins is_signature_word ts ≡ false →
+      Answers (module_sort limit) ts r → Answers (items_sort limit) ts r
+  module_answers (Ok r) off a = module_took r.tree r.rest.now r.depth a
+  module_answers (Err e) off a = module_failed off e a

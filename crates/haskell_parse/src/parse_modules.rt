@@ -1,8 +1,10 @@
 //! The module or signature that tokens spell.
-ghost use Rattle.std.specs.Prelude.{map, Some, None};
+ghost use Rattle.std.specs.Prelude.{◌≡◌, map, Some, None, true, false};
+ghost use Rattle.hs_forms.specs.Reading.{begins};
 ghost use Rattle.hs_forms.specs.Whole.{IsAnswer};
 ghost use Rattle.hs_tokens.specs.Terminals.{terminal_of};
 ghost use Rattle.hs_modules.specs.ModuleForms.{items_form, module_form, sig_form};
+ghost use Rattle.hs_headers.specs.Names.{is_signature_word};
 ghost use Rattle.hs_signature_forms.specs.Signatures.{signature_sort};
 ghost use Rattle.hs_body_forms.specs.Bodies.{module_sort};
 ghost use Rattle.hs_readers.specs.Answers.{Answers};
@@ -59,6 +61,30 @@ impl Readable for Signatures {
     }
 }
 
+/// The signature at the front of the terminals, among modules and signatures.
+fn read_signature_item<'a>(
+    alloc: Global,
+    tokens: &'a [Terminal],
+    limit: Option<usize>,
+) -> Result<Read<'a, Module>, Fault>
+    requires { begins is_signature_word tokens.now ≡ true }
+    ensures { Answers (items_sort limit) tokens.now result }
+{
+    read_signature(alloc, tokens, limit)
+}
+
+/// The module at the front of the terminals, among modules and signatures.
+fn read_module_item<'a>(
+    alloc: Global,
+    tokens: &'a [Terminal],
+    limit: Option<usize>,
+) -> Result<Read<'a, Module>, Fault>
+    requires { begins is_signature_word tokens.now ≡ false }
+    ensures { Answers (items_sort limit) tokens.now result }
+{
+    read_module(alloc, tokens, limit)
+}
+
 /// The module or signature at the front of the terminals.
 fn read_items<'a>(
     alloc: Global,
@@ -67,12 +93,10 @@ fn read_items<'a>(
 ) -> Result<Read<'a, Module>, Fault>
     ensures { Answers (items_sort limit) tokens.now result }
 {
-    if after_signature(tokens).is_some() {
-        let signature = read_signature(alloc, tokens, limit)?;
-        return Ok(signature);
+    match after_signature(tokens) {
+        Some(_) => read_signature_item(alloc, tokens, limit),
+        None => read_module_item(alloc, tokens, limit),
     }
-    let module = read_module(alloc, tokens, limit)?;
-    Ok(module)
 }
 
 impl Readable for SourceItems {
