@@ -9,11 +9,12 @@ mod parse_pats;
 mod parse_types;
 mod reading;
 
-pub use parse_exps::parse_exp;
+pub use parse_exps::{one_decl, one_exp, parse_exp};
 pub use parse_kinds::{one_kind, parse_kind};
 pub use parse_modules::{
-    Modules, Signatures, SourceItems, parse_items, parse_module, parse_signature,
+    Modules, Signatures, SourceItems, one_item, one_module, one_signature, parse_items,
+    parse_module, parse_signature,
 };
 pub use parse_pats::{no_bind, one_pat, parse_pat};
 pub use parse_types::{one_type, parse_type};
-pub use reading::{Readable, Unambiguous, one_tree, parse};
+pub use reading::{Readable, Unambiguous, one_tree, parse, read_back};

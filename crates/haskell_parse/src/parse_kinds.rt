@@ -1,12 +1,13 @@
 //! The kind that tokens spell.
 ghost use Rattle.std.specs.Prelude.{◌≡◌, List, map, Some, None};
-ghost use Rattle.hs_forms.specs.Whole.{IsAnswer, Spells};
+ghost use Rattle.hs_forms.specs.Whole.{Spells};
 ghost use Rattle.hs_tokens.specs.Terminals.{terminal_of};
 ghost use Rattle.hs_tokens.specs.declared.terminal.Terminal.{Terminal};
 ghost use Rattle.hs_trees.specs.Kinds.{kind_form, kind_sort};
 ghost use Rattle.hs_trees.specs.declared.types.KindTree.{KindTree};
-ghost use Rattle.hs_trees.proofs.KindUniqueLemmas.{one_kind};
 ghost use Rattle.hs_readers.specs.Answers.{Answers};
+ghost use Rattle.hs_one_tree.proofs.WithinLemmas.{one_kind_within};
+ghost use Rattle.haskell_parse.specs.Parsed.{IsParsed};
 
 use crate::reading::{Readable, Unambiguous, parse};
 use hs_forms::{Fault, ParseError};
@@ -32,7 +33,7 @@ impl Readable for KindTree {
 }
 
 impl Unambiguous for KindTree {
-    ghost unique = { one_kind };
+    ghost unique = { one_kind_within };
 }
 
 /// The kind that all the tokens spell (Haskell 2010 Report, section 4.1.1).
@@ -40,7 +41,7 @@ impl Unambiguous for KindTree {
 /// A refusal has the index of the first token with which the tokens begin no kind of a depth up to 200, or their number
 /// where each of them can stand there and more are needed. It is `DepthLimit` where they begin a deeper kind.
 pub fn parse_kind(alloc: Global, tokens: &Tokens) -> Result<KindTree, ParseError>
-    ensures answer { IsAnswer (kind_form (Some 200)) (kind_form None) (map terminal_of tokens.now) result }
+    ensures answer { IsParsed (kind_form (Some 200)) (kind_form None) (map terminal_of tokens.now) result }
 {
     parse::<KindTree>(alloc, tokens)
 }

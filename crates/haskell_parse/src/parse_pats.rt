@@ -1,15 +1,16 @@
 //! The pattern that tokens spell.
 ghost use Rattle.std.specs.Prelude.{◌≡◌, ◌∷◌, ◌++◌, List, map, not, true, false, Some, None};
 ghost use Rattle.hs_forms.specs.Reading.{begins};
-ghost use Rattle.hs_forms.specs.Whole.{IsAnswer, Spells};
+ghost use Rattle.hs_forms.specs.Whole.{Spells};
 ghost use Rattle.hs_tokens.specs.Terminals.{terminal_of};
 ghost use Rattle.hs_tokens.specs.declared.terminal.Terminal.{Terminal};
 ghost use Rattle.hs_tokens.specs.declared.terminal.Terminal.TheVariants.{LeftArrow};
 ghost use Rattle.hs_trees.specs.Hits.{hits, follows_guard};
 ghost use Rattle.hs_trees.specs.Patterns.{pat_form, pat_sort, spelling_pat};
 ghost use Rattle.hs_trees.specs.declared.patterns.PatTree.{PatTree};
-ghost use Rattle.hs_trees.proofs.PatternUniqueLemmas.{one_pattern};
 ghost use Rattle.hs_readers.specs.Answers.{Answers};
+ghost use Rattle.hs_one_tree.proofs.WithinLemmas.{one_pattern_within};
+ghost use Rattle.haskell_parse.specs.Parsed.{IsParsed};
 
 use crate::reading::{Readable, Unambiguous, parse};
 use hs_forms::{Fault, ParseError};
@@ -35,7 +36,7 @@ impl Readable for PatTree {
 }
 
 impl Unambiguous for PatTree {
-    ghost unique = { one_pattern };
+    ghost unique = { one_pattern_within };
 }
 
 /// The pattern that all the tokens spell (Haskell 2010 Report, section 3.17.1).
@@ -43,7 +44,7 @@ impl Unambiguous for PatTree {
 /// A refusal has the index of the first token with which the tokens begin no pattern of a depth up to 200, or their number
 /// where each of them can stand there and more are needed. It is `DepthLimit` where they begin a deeper pattern.
 pub fn parse_pat(alloc: Global, tokens: &Tokens) -> Result<PatTree, ParseError>
-    ensures answer { IsAnswer (pat_form (Some 200)) (pat_form None) (map terminal_of tokens.now) result }
+    ensures answer { IsParsed (pat_form (Some 200)) (pat_form None) (map terminal_of tokens.now) result }
 {
     parse::<PatTree>(alloc, tokens)
 }

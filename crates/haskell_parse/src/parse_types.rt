@@ -1,12 +1,13 @@
 //! The type that tokens spell.
 ghost use Rattle.std.specs.Prelude.{◌≡◌, List, map, Some, None};
-ghost use Rattle.hs_forms.specs.Whole.{IsAnswer, Spells};
+ghost use Rattle.hs_forms.specs.Whole.{Spells};
 ghost use Rattle.hs_tokens.specs.Terminals.{terminal_of};
 ghost use Rattle.hs_tokens.specs.declared.terminal.Terminal.{Terminal};
 ghost use Rattle.hs_trees.specs.Types.{type_form, type_sort};
 ghost use Rattle.hs_trees.specs.declared.types.TypeTree.{TypeTree};
-ghost use Rattle.hs_trees.proofs.TypeUniqueLemmas.{one_type};
 ghost use Rattle.hs_readers.specs.Answers.{Answers};
+ghost use Rattle.hs_one_tree.proofs.WithinLemmas.{one_type_within};
+ghost use Rattle.haskell_parse.specs.Parsed.{IsParsed};
 
 use crate::reading::{Readable, Unambiguous, parse};
 use hs_forms::{Fault, ParseError};
@@ -32,7 +33,7 @@ impl Readable for TypeTree {
 }
 
 impl Unambiguous for TypeTree {
-    ghost unique = { one_type };
+    ghost unique = { one_type_within };
 }
 
 /// The type that all the tokens spell (Haskell 2010 Report, section 4.1.2).
@@ -40,7 +41,7 @@ impl Unambiguous for TypeTree {
 /// A refusal has the index of the first token with which the tokens begin no type of a depth up to 200, or their number
 /// where each of them can stand there and more are needed. It is `DepthLimit` where they begin a deeper type.
 pub fn parse_type(alloc: Global, tokens: &Tokens) -> Result<TypeTree, ParseError>
-    ensures answer { IsAnswer (type_form (Some 200)) (type_form None) (map terminal_of tokens.now) result }
+    ensures answer { IsParsed (type_form (Some 200)) (type_form None) (map terminal_of tokens.now) result }
 {
     parse::<TypeTree>(alloc, tokens)
 }

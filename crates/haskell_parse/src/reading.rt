@@ -1,11 +1,13 @@
 //! The tree that all the tokens spell, for each kind of tree that has a reader.
-ghost use Rattle.std.specs.Prelude.{◌≡◌, ◌↔◌, ℕ, List, map, IsTrue, MatchResult, Option, Some, None};
+ghost use Rattle.std.specs.Prelude.{◌≡◌, ◌≤◌, ◌↔◌, ℕ, List, length, map, IsTrue, MatchResult, Option, Result, Some, None};
 ghost use Rattle.hs_forms.specs.Answers.{Sort};
-ghost use Rattle.hs_forms.specs.Whole.{IsWhole, IsAnswer, Begins, Spells};
+ghost use Rattle.hs_forms.specs.Whole.{IsWhole, Begins, Spells};
+ghost use Rattle.hs_forms.specs.declared.error.ParseError.{ParseError};
 ghost use Rattle.hs_forms.specs.declared.error.ParseError.TheVariants.{NoMemory};
 ghost use Rattle.hs_tokens.specs.Terminals.{terminal_of};
 ghost use Rattle.hs_tokens.specs.declared.terminal.Terminal.{Terminal};
 ghost use Rattle.hs_readers.specs.Answers.{Answers};
+ghost use Rattle.haskell_parse.specs.Parsed.{IsParsed, GoesOn};
 
 use hs_forms::{Fault, ParseError};
 use hs_readers::{MAX_DEPTH, Read};
@@ -26,9 +28,9 @@ pub trait Readable: Sized {
         ensures { Answers (sort limit) tokens.now result };
 }
 
-/// A production of whose trees no two have one spelling.
+/// A production of whose trees no two have one spelling, within any limit.
 pub trait Unambiguous: Readable {
-    ghost unique: { (tokens : List Terminal) (one other : Self.Tree) → Spells (Self.sort None).form one tokens → Spells (Self.sort None).form other tokens → other ≡ one };
+    ghost unique: { (limit : Option ℕ) (tokens : List Terminal) (one other : Self.Tree) → Spells (Self.sort limit).form one tokens → Spells (Self.sort limit).form other tokens → other ≡ one };
 }
 
 /// The tree that all the terminals spell, within the limit.
@@ -58,9 +60,32 @@ fn begins<T: Readable>(alloc: Global, tokens: &[Terminal]) -> Result<bool, Parse
     }
 }
 
+/// Whether the terminals spell a tree, of any depth.
+fn is_whole<T: Readable>(alloc: Global, tokens: &[Terminal]) -> Result<bool, ParseError>
+    ensures { MatchResult result (λ whole. IsTrue whole ↔ ((tree : T.Tree) × Spells (T.sort None).form tree tokens.now)) (λ e. e ≡ NoMemory) }
+{
+    match whole::<T>(alloc, tokens, None) {
+        Ok(_) => Ok(true),
+        Err(Fault::At(_)) => Ok(false),
+        Err(Fault::NoMemory) => Err(ParseError::NoMemory),
+    }
+}
+
+/// Whether the terminals up to and with the one at the index begin a tree of any depth, or all of them spell one.
+fn goes_on<T: Readable>(alloc: Global, tokens: &[Terminal], at: usize) -> Result<bool, ParseError>
+    requires { at ≤ length tokens.now }
+    ensures { MatchResult result (λ goes. IsTrue goes ↔ GoesOn (T.sort None).form tokens.now at) (λ e. e ≡ NoMemory) }
+{
+    if at < tokens.len() {
+        begins::<T>(alloc, &tokens[..at + 1])
+    } else {
+        is_whole::<T>(alloc, tokens)
+    }
+}
+
 /// `parse`, of terminals.
 fn of_terminals<T: Readable>(alloc: Global, tokens: &[Terminal]) -> Result<T::Tree, ParseError>
-    ensures { IsAnswer (T.sort (Some 200)).form (T.sort None).form tokens.now result }
+    ensures { IsParsed (T.sort (Some 200)).form (T.sort None).form tokens.now result }
 {
     let left = match whole::<T>(alloc, tokens, Some(MAX_DEPTH)) {
         Ok(tree) => return Ok(tree),
@@ -69,7 +94,7 @@ fn of_terminals<T: Readable>(alloc: Global, tokens: &[Terminal]) -> Result<T::Tr
     };
     let at = tokens.len() - left;
     let index = at as u64;
-    if left > 0 && begins::<T>(alloc, &tokens[..at + 1])? {
+    if goes_on::<T>(alloc, tokens, at)? {
         return Err(ParseError::DepthLimit { index });
     }
     Err(ParseError::Syntax { index })
@@ -78,9 +103,9 @@ fn of_terminals<T: Readable>(alloc: Global, tokens: &[Terminal]) -> Result<T::Tr
 /// The tree that all the tokens spell.
 ///
 /// A refusal has the index of the first token with which the tokens begin no tree of a depth up to 200, or their number
-/// where each of them can stand there and more are needed. It is `DepthLimit` where they begin a deeper tree.
+/// where each of them can stand there and more are needed. It is `DepthLimit` where they begin a deeper tree, or spell one.
 pub fn parse<T: Readable>(alloc: Global, tokens: &Tokens) -> Result<T::Tree, ParseError>
-    ensures { IsAnswer (T.sort (Some 200)).form (T.sort None).form (map terminal_of tokens.now) result }
+    ensures { IsParsed (T.sort (Some 200)).form (T.sort None).form (map terminal_of tokens.now) result }
 {
     let terminals = terminals_of(alloc, tokens)?;
     of_terminals::<T>(alloc, terminals.as_slice())
@@ -88,5 +113,10 @@ pub fn parse<T: Readable>(alloc: Global, tokens: &Tokens) -> Result<T::Tree, Par
 
 /// No two trees have one spelling, whatever their depth.
 pub fn one_tree<T: Unambiguous>()
-    ensures { (tokens : List Terminal) (one other : T.Tree) → Spells (T.sort None).form one tokens → Spells (T.sort None).form other tokens → other ≡ one }
+    ensures { (limit : Option ℕ) (tokens : List Terminal) (one other : T.Tree) → Spells (T.sort limit).form one tokens → Spells (T.sort limit).form other tokens → other ≡ one }
+{}
+
+/// What `parse` answers of the tokens of a tree within the limit is that tree, unless memory is wanting.
+pub fn read_back<T: Unambiguous>()
+    ensures { (tokens : List Terminal) (tree : T.Tree) (answer : Result T.Tree ParseError) → Spells (T.sort (Some 200)).form tree tokens → IsParsed (T.sort (Some 200)).form (T.sort None).form tokens answer → MatchResult answer (λ read. read ≡ tree) (λ e. e ≡ NoMemory) }
 {}
