@@ -36,10 +36,16 @@ refused-once bytes (e.LeftOut a) (e.LeftOut b) p q =
     ap (λ (n : ℕ). e.LeftOut n) (cc (one_answer bytes (Err (l.LeftOut a)) (Err (l.LeftOut b)) p q (λ x. cc) (λ x. cc)))
 refused-once bytes (e.Layout a) q p r = absurd p
 refused-once bytes e.NoMemory q p r = absurd p
+refused-once bytes (e.Syntax a) q p r = absurd p
+refused-once bytes e.Nesting q p r = absurd p
 refused-once bytes (e.Lexical a) (e.Layout b) p q = absurd q
 refused-once bytes (e.Lexical a) e.NoMemory p q = absurd q
+refused-once bytes (e.Lexical a) (e.Syntax b) p q = absurd q
+refused-once bytes (e.Lexical a) e.Nesting p q = absurd q
 refused-once bytes (e.LeftOut a) (e.Layout b) p q = absurd q
 refused-once bytes (e.LeftOut a) e.NoMemory p q = absurd q
+refused-once bytes (e.LeftOut a) (e.Syntax b) p q = absurd q
+refused-once bytes (e.LeftOut a) e.Nesting p q = absurd q
 
 -- a text that has tokens is not refused
 tokens-refuse-nothing : (bytes : List ℕ) (tokens : List Token) (r : SourceError) → Lexes bytes (Ok tokens)
@@ -50,6 +56,8 @@ tokens-refuse-nothing bytes tokens (e.LeftOut a) p q =
     never tokens (l.LeftOut a) (one_answer bytes (Ok tokens) (Err (l.LeftOut a)) p q (λ x. cc) (λ x. cc))
 tokens-refuse-nothing bytes tokens (e.Layout a) p q = q
 tokens-refuse-nothing bytes tokens e.NoMemory p q = q
+tokens-refuse-nothing bytes tokens (e.Syntax a) p q = q
+tokens-refuse-nothing bytes tokens e.Nesting p q = q
 
 pub IsExact-lexed : (bytes : List ℕ) → IsExact (lexed bytes)
 IsExact-lexed bytes = record {

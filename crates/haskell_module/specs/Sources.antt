@@ -33,6 +33,8 @@ abbrev pub LexFails : List ℕ → SourceError → Type 0
 LexFails bytes (e.Lexical offset) = Lexes bytes (Err (l.Lexical offset))
 LexFails bytes (e.LeftOut offset) = Lexes bytes (Err (l.LeftOut offset))
 LexFails bytes (e.Layout offset) = ⊥
+LexFails bytes (e.Syntax offset) = ⊥
+LexFails bytes e.Nesting = ⊥
 LexFails bytes e.NoMemory = ⊥
 
 abbrev pub lexed : List ℕ → Check (List Token) SourceError
@@ -51,9 +53,11 @@ abbrev pub tokens_read : List ℕ → Check (List Token) SourceError
 tokens_read bytes = lexed bytes >>= laid_out (length bytes)
 
 -- an answer passes the check, and a refusal fails it; of want of memory nothing is said
-abbrev pub ChecksSource : Check (List Token) SourceError → Result (List Token) SourceError → Type 0
-ChecksSource check (Ok tokens) = check.passes tokens
+abbrev pub ChecksSource : {B : Type 0} → Check B SourceError → Result B SourceError → Type 0
+ChecksSource check (Ok answer) = check.passes answer
 ChecksSource check (Err e.NoMemory) = ⊤
 ChecksSource check (Err (e.Lexical offset)) = check.fails (e.Lexical offset)
 ChecksSource check (Err (e.LeftOut offset)) = check.fails (e.LeftOut offset)
 ChecksSource check (Err (e.Layout offset)) = check.fails (e.Layout offset)
+ChecksSource check (Err (e.Syntax offset)) = check.fails (e.Syntax offset)
+ChecksSource check (Err e.Nesting) = check.fails e.Nesting

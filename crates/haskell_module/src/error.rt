@@ -13,6 +13,13 @@ pub enum SourceError {
     /// The token there is a `}` without its `{`; or the source ends there, and a `{` has no `}`.
     #[error("no layout at byte {offset}")]
     Layout { offset: u64 },
+    /// No module or signature goes on with the token there; or the source ends there, and more is needed. Or the head there
+    /// tells another name.
+    #[error("no module at byte {offset}")]
+    Syntax { offset: u64 },
+    /// The source begins only trees that nest deeper than 200.
+    #[error("nested too deeply")]
+    Nesting,
     #[error("out of memory")]
     NoMemory,
 }

@@ -19,7 +19,7 @@ fn lex_failed(error: LexError) -> SourceError
 }
 
 /// The number of bytes before the token at the index; before the end of the source where there is none.
-fn offset_at(tokens: &[Token], end: u64, index: u64) -> u64
+pub fn offset_at(tokens: &[Token], end: u64, index: u64) -> u64
     ensures { result ≡ offset_at tokens.now end index }
 {
     match tokens.get(index as usize) {

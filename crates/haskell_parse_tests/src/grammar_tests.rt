@@ -407,25 +407,78 @@ fn chains_have_200_operators(rt: HostRuntime) -> Result<(), Fail> {
     Ok(())
 }
 
+/// Expressions that are nested so many times: the answer, how often, what stands in front, in the middle and behind.
+const NESTED: &str = "\
+tree      # 200 # ( # x # )
+deep 201  # 201 # ( # x # )
+tree      # 200 # [ # x # ]
+deep 201  # 201 # [ # x # ]
+tree      # 200 # ( x , # x # )
+tree      # 200 # ( # x # + )
+tree      # 200 # ( + # x # )
+tree      # 100 # ( - # x # )
+deep 202  # 101 # ( - # x # )
+tree      # 200 # f ( # x # )
+tree      # 200 # \\ x -> # x #
+deep 600  # 201 # \\ x -> # x #
+tree      # 200 # if x then x else # x #
+deep 1000 # 201 # if x then x else # x #
+tree      # 200 # if # x # then x else x
+tree      # 200 # let { } in # x #
+deep 800  # 201 # let { } in # x #
+tree      # 80  # let { x = # x # } in y
+tree      # 40  # let { x = y where { z = # x # } } in y
+tree      # 200 # case # x # of { }
+tree      # 80  # case x of { y -> # x # }
+tree      # 40  # case x of { y | # x # -> y }";
+
 #[test]
-fn brackets_lists_and_blocks_nest(rt: HostRuntime) -> Result<(), Fail> {
+fn nested_expressions(rt: HostRuntime) -> Result<(), Fail> {
     let alloc = rt.alloc();
-    let rows = "\
-( |)
-[ |]
-( - |)
-\\ x -> |
-f ( |)
-let { } in |
-case |of { }
-case x of { y -> |}
-let { x = |} in y
-";
-    for row in rows.lines() {
-        let (front, back) = row.split_once('|').unwrap_or(("", ""));
-        let tokens = nested(alloc, 40, front, "x", back)?;
+    let mut wrong = String::new(alloc);
+    for row in NESTED.lines() {
+        let mut cells = row.split('#');
+        let want = cells.next().unwrap_or("").trim();
+        let times = cells
+            .next()
+            .unwrap_or("")
+            .trim()
+            .parse::<usize>()
+            .unwrap_or(0);
+        let front = cells.next().unwrap_or("");
+        let middle = cells.next().unwrap_or("");
+        let tokens = nested(alloc, times, front, middle, cells.next().unwrap_or(""))?;
         let found = answer_for(alloc, Part::Exp, &tokens)?;
-        assert_eq!(rt; found.as_str(), "tree");
+        if found.as_str() != want {
+            wrong.push_str(row)?;
+            wrong.push_str(": ")?;
+            wrong.push_str(found.as_str())?;
+            wrong.push_str("\n")?;
+        }
     }
+    assert_eq!(rt; wrong.as_str(), "");
+    Ok(())
+}
+
+#[test]
+fn long_lists_and_blocks_are_read(rt: HostRuntime) -> Result<(), Fail> {
+    let alloc = rt.alloc();
+    let mut list = nested(alloc, 0, "", "[ x", "")?;
+    for _ in 0..99_999 {
+        push_words(alloc, &mut list, ", x")?;
+    }
+    push_words(alloc, &mut list, "]")?;
+    let found = answer_for(alloc, Part::Exp, &list)?;
+    assert_eq!(rt; found.as_str(), "tree");
+    let mut block = nested(alloc, 0, "", "{ x = y", "")?;
+    for _ in 0..99_999 {
+        push_words(alloc, &mut block, "; x = y")?;
+    }
+    push_words(alloc, &mut block, "}")?;
+    let found = answer_for(alloc, Part::Module, &block)?;
+    assert_eq!(rt; found.as_str(), "tree");
+    let chain = nested(alloc, 100_000, "x +", "x", "")?;
+    let found = answer_for(alloc, Part::Exp, &chain)?;
+    assert_eq!(rt; found.as_str(), "deep 401");
     Ok(())
 }
