@@ -13,6 +13,7 @@ use Rattle.project_sources.proofs.WholeLemmas.{IsExact-project_at, IsWithin-proj
 use Rattle.project_sources.proofs.SourceLemmas.{IsExact-gathered, IsWithin-gathered}
 use Rattle.project_order.proofs.OrderLemmas.{IsExact-build_order}
 use Rattle.plain_check.proofs.ExactLemmas.{IsExact-source_read, IsExact-typed, IsExact-text_of, IsExact-asks_nothing}
+use Rattle.plain_check.proofs.ExactLemmas.{IsWithin-source_read}
 use Rattle.backpack_run.specs.declared.build.Built.{Built}
 use Rattle.backpack_run.specs.Given.{component_in, listed, reached_one, reached, planned, plan_of, read_one, built_of}
 use Rattle.backpack_run.specs.Given.{checked_one, built_total, all_checked, built_in, text_if, closed, built, content_in}
@@ -49,7 +50,7 @@ IsExact-planned l files target = IsExact-then _ _ (IsExact-project_at l files) (
 pub IsExact-read_one : (l : Limits) (files : List File) (seen : ℕ) (c : Component) → IsExact (read_one l files seen c)
 unfolding read_one
 IsExact-read_one l files seen c = IsExact-then _ _ (IsExact-gathered l files seen c) (λ i.
-    IsExact-then _ _ (IsExact-source_read i.component.name _ _) (λ m. IsExact-given (built_of i m)))
+    IsExact-then _ _ (IsExact-source_read l.nesting i.component.name _ _) (λ m. IsExact-given (built_of i m)))
 
 IsExact-checked_one : (l : Limits) (files : List File) (seen : ℕ) (c : Component) → IsExact (checked_one l files seen c)
 unfolding checked_one
@@ -90,7 +91,8 @@ pub IsWithin-read_one : (l : Limits) (files : List File) (seen other : ℕ) (c :
     → IsWithin IsWrong (read_one l files seen c) (read_one unlimited files other c)
 unfolding read_one
 IsWithin-read_one l files seen other c = IsWithin-then IsWrong _ _ _ _ (IsWithin-gathered l files seen other c)
-    (λ i. record { answer = λ b q. q; refusal = λ r k q. q })
+    (λ i. IsWithin-then IsWrong _ _ _ _ (IsWithin-source_read l.nesting i.component.name _ _)
+    (λ m. record { answer = λ b q. q; refusal = λ r k q. q }))
 
 IsWithin-checked_one : (l : Limits) (files : List File) (seen : ℕ) (c : Component)
     → IsWithin IsWrong (checked_one l files seen c) (checked_one unlimited files seen c)

@@ -70,7 +70,7 @@ module _ (told : Option (List File)) (target : Text) where
 
 module _ (told : Option (List File)) (seen : ℕ) (c : Component) where
   abbrev module_of : Input → Check PlainModule Refused
-  module_of i = source_read i.component.name (own_module i.component) (first_bytes i.sources)
+  module_of i = source_read limited.nesting i.component.name (own_module i.component) (first_bytes i.sources)
 
   abbrev rest_of_reading : Input → Check Built Refused
   rest_of_reading i = module_of i >>= λ m. given (built_of i m)

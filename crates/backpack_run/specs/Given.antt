@@ -78,7 +78,7 @@ built_of i m = record { name = i.component.name; bytes = source_total i.sources;
 unfoldable pub read_one : Limits → List File → ℕ → Component → Check Built Refused
 read_one l files seen c =
     gathered l files seen c >>= λ i.
-    source_read i.component.name (own_module i.component) (first_bytes i.sources) >>= λ m. given (built_of i m)
+    source_read l.nesting i.component.name (own_module i.component) (first_bytes i.sources) >>= λ m. given (built_of i m)
 
 -- and checked
 unfoldable pub checked_one : Limits → List File → ℕ → Component → Check Built Refused

@@ -13,6 +13,20 @@ a :: Prelude.Int;\n\
 a = U0.M.f 9223372036854775807;\n\
 }\n";
 
+const LONG: &[u8] = b"module U0.M (U0.M.xY, U0.M.x_1') where {\n\
+import qualified Prelude;\n\
+x_1' :: Prelude.Int -> Prelude.Int;\n\
+x_1' id = id;\n\
+xY :: Prelude.Int;\n\
+xY = U0.M.x_1' 31;\n\
+}\n";
+
+const ARROWS: &[u8] = b"module U0.M (U0.M.f) where {\n\
+import qualified Prelude;\n\
+f :: Prelude.Int -> Prelude.Int -> Prelude.Int -> Prelude.Int -> Prelude.Int -> Prelude.Int -> Prelude.Int -> Prelude.Int -> Prelude.Int -> Prelude.Int -> Prelude.Int -> Prelude.Int -> Prelude.Int -> Prelude.Int -> Prelude.Int -> Prelude.Int -> Prelude.Int -> Prelude.Int;\n\
+f = U0.M.f;\n\
+}\n";
+
 const APPLIED: &[u8] = b"module U0.M (U0.M.f, U0.M.g) where {\n\
 import qualified Prelude;\n\
 g :: Prelude.Int;\n\
@@ -22,7 +36,7 @@ f a = a;\n\
 }\n";
 
 /// Sources with the flat texts of what they spell.
-pub const SPELLED: [(&[u8], &[u8]); 11] = [
+pub const SPELLED: [(&[u8], &[u8]); 18] = [
     (
         b"module M where { g :: Int; g = f 2; f :: Int -> Int; f a = a; }",
         APPLIED,
@@ -38,6 +52,19 @@ pub const SPELLED: [(&[u8], &[u8]); 11] = [
     ),
     (b"module M where\r\nx :: Int\r\nx = 1\r\n", ONE),
     (b"module M where { }", EMPTY),
+    (b"module M where {;}", EMPTY),
+    (b"module M where { x :: Int; x = 1;; }", ONE),
+    (b"module M where { x :: Int;; x = 1 }", ONE),
+    (b"module M where { x :: (Int); x = ((1)) }", ONE),
+    (b"module M where { x :: Int; x = 0x1 }", ONE),
+    (
+        b"module M where { x_1' :: Int -> Int; x_1' id = id; xY :: Int; xY = x_1' (0X1f) }",
+        LONG,
+    ),
+    (
+        b"module M where { f :: Int->Int->Int->Int->Int->Int->Int->Int->Int->Int->Int->Int->Int->Int->Int->Int->Int->Int; f = f }",
+        ARROWS,
+    ),
     (
         b"module M where{f::Int->Int;f a=a;a::Int;a=f 9223372036854775807}",
         HIDDEN,
@@ -48,27 +75,91 @@ pub const SPELLED: [(&[u8], &[u8]); 11] = [
     ),
 ];
 
-/// Sources that spell no module M.
-pub const REFUSED: [&[u8]; 19] = [
-    b"module M (x) where { x :: Int; x = 1 }",
-    b"x :: Int\nx = 1\n",
-    b"",
-    b"module N where { }",
-    b"module M where {;}",
-    b"module M where { x = 1 }",
-    b"module M where { x :: Int }",
-    b"module M where { x :: Int; x = }",
-    b"module M where { x :: Int; y = 1 }",
-    b"module M where { x :: Int; x = 1;; }",
-    b"module M where { x :: Int;; x = 1 }",
-    b"module M where { x :: Int; x = 1 y :: Int; y = 1 }",
-    b"module M where { x :: Int; x = 1; x :: Int; x = 1 }",
-    b"module M where { x :: Int; x = y }",
-    b"module M where { x :: Int; x a a = 1 }",
-    b"module M where { x :: Int; x 1 = 1 }",
-    b"module M where { x :: Int -> ; x = 1 }",
-    b"module M where { x :: Int; x = 1a }",
-    b"module M where { x :: Int->Int->Int->Int->Int->Int->Int->Int->Int->Int->Int->Int->Int->Int->Int->Int->Int->Int; x = x }",
+/// Sources that are no plain module M, with the notes on them.
+pub const REFUSED: [(&[u8], &[u8]); 26] = [
+    (
+        b"module M (x) where { x :: Int; x = 1 }",
+        b"refused 10 Syntax one M 0\n",
+    ),
+    (b"x :: Int\nx = 1\n", b"refused 10 Syntax one M 0\n"),
+    (b"  -- M\n  x :: Int\n", b"refused 10 Syntax one M 9\n"),
+    (b"", b"refused 10 Syntax one M 0\n"),
+    (b"module N where { }", b"refused 10 Syntax one M 7\n"),
+    (
+        b"module M where\nx :: Int\nx = (1\n",
+        b"refused 10 Syntax one M 31\n",
+    ),
+    (b"module M where { x = 1 }", b"refused 10 Syntax one M 0\n"),
+    (
+        b"module M where { x :: Int }",
+        b"refused 10 Syntax one M 0\n",
+    ),
+    (
+        b"module M where { x :: Int; x = }",
+        b"refused 10 Syntax one M 31\n",
+    ),
+    (
+        b"module M where { x :: Int; y = 1 }",
+        b"refused 10 Syntax one M 0\n",
+    ),
+    (
+        b"module M where { x :: Int; x = 1 y :: Int; y = 1 }",
+        b"refused 10 Syntax one M 0\n",
+    ),
+    (
+        b"module M where { x :: Int; x = 1; x :: Int; x = 1 }",
+        b"refused 10 Syntax one M 0\n",
+    ),
+    (
+        b"module M where { x :: Int; x = y }",
+        b"refused 10 Syntax one M 0\n",
+    ),
+    (
+        b"module M where { x :: Int; x a a = 1 }",
+        b"refused 10 Syntax one M 0\n",
+    ),
+    (
+        b"module M where { x :: Int; x 1 = 1 }",
+        b"refused 10 Syntax one M 0\n",
+    ),
+    (
+        b"module M where { x :: Int -> ; x = 1 }",
+        b"refused 10 Syntax one M 29\n",
+    ),
+    (
+        b"module M where { x :: Int; x = 1a }",
+        b"refused 10 Syntax one M 0\n",
+    ),
+    (
+        b"module M where { id :: Int; id = 1; x :: Int; x = id }",
+        b"refused 10 Syntax one M 0\n",
+    ),
+    (
+        b"module M where { f :: Int -> Int; f 0 = 1; f x = x }",
+        b"refused 10 Syntax one M 0\n",
+    ),
+    (
+        b"module M where { x :: Int; x = 1 + 2 }",
+        b"refused 10 Syntax one M 0\n",
+    ),
+    (
+        b"module M where { x :: Int; x = y where { y = 1 } }",
+        b"refused 10 Syntax one M 0\n",
+    ),
+    (
+        b"module M where { import Prelude; x :: Int; x = 1 }",
+        b"refused 10 Syntax one M 0\n",
+    ),
+    (
+        b"module M where { x :: * }",
+        b"refused 10 Syntax one M 22\n",
+    ),
+    (
+        b"module M where { x = - - 1 }",
+        b"refused 10 Syntax one M 23\n",
+    ),
+    (b"signature M where { }", b"refused 10 Syntax one M 0\n"),
+    (b"module M x = 1", b"refused 10 Syntax one M 9\n"),
 ];
 
 /// Sources with the notes on them: none where each value has its declared type, else on the first that has not.
@@ -236,7 +327,7 @@ pub const PROJECTS: [(&[u8], &[u8], u64, u8, &[u8]); 25] = [
         b"a",
         9,
         1,
-        b"refused 10 Syntax a M 0\n",
+        b"refused 10 Syntax a M 7\n",
     ),
     (
         b"cabal.project~packages: a\n|a/a.cabal~name: a\nlibrary\n  exposed-modules: M\n  build-depends: base\n  mixins: base (Prelude)\n",

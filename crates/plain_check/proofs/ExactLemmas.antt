@@ -1,60 +1,28 @@
 -- What the source of a plain module gives has one outcome.
-use Rattle.std.proofs.Common.{◌≡◌, ℕ, Option, Some, List, [], ◌∷◌, ◌++◌, refl, sym, ap, ◌∙◌, subst}
+use Rattle.std.proofs.Common.{◌≡◌, ℕ, Option, Some, None, List, [], ◌∷◌, ◌++◌, refl, sym, ap, ◌∙◌, subst}
 use Rattle.bp_base.specs.Texts.{Text}
-use Rattle.bp_base.specs.declared.code.Code.TheVariants.{Syntax, IllTyped, ComponentSyntax}
-use Rattle.bp_base.specs.declared.defect.Defect.{Defect}
-use Rattle.bp_base.specs.declared.defect.Item.TheVariants.{Offset, Line, Named}
-use Rattle.bp_checks.specs.Check.{IsExact}
-use Rattle.bp_checks.specs.Refused.{Refused, Wrong, defect_at}
-use Rattle.bp_checks.proofs.CheckLemmas.{IsExact-then}
-use Rattle.bp_checks.proofs.RefusedLemmas.{IsExact-spelled}
-use Rattle.hs_tokens.specs.declared.token.Token.{Token}
+use Rattle.bp_base.specs.declared.code.Code.TheVariants.{IllTyped, ComponentSyntax}
+use Rattle.bp_base.specs.declared.defect.Item.TheVariants.{Line, Named}
+use Rattle.bp_checks.specs.Check.{IsExact, IsWithin}
+use Rattle.bp_checks.specs.Refused.{Refused, Wrong, IsWrong, defect_at}
+use Rattle.bp_checks.proofs.CheckLemmas.{IsExact-then, IsWithin-then}
+use Rattle.hs_modules.specs.declared.module.Module.{Module}
 use Rattle.haskell_module.specs.declared.error.SourceError.{SourceError}
 use Rattle.haskell_module.specs.declared.error.SourceError.TheVariants as e
-use Rattle.haskell_module.proofs.SourceLemmas.{IsExact-tokens_read}
+use Rattle.haskell_module.specs.Modules.{IsKept}
+use Rattle.haskell_module.proofs.ModuleLemmas.{IsExact-module_read, IsWithin-module_read}
 use Rattle.cabal_text.specs.Lines.{kept_lines}
 use Rattle.cabal_text.specs.Least.{least_of}
 use Rattle.cabal_component.specs.declared.component.Component.{Component}
 use Rattle.hs_plain.specs.declared.plain.Binding.{Binding}
 use Rattle.hs_plain.specs.declared.plain.PlainModule.{PlainModule}
-use Rattle.plain_check.specs.Source.{AreItems, IsModuleOf}
+use Rattle.plain_trees.specs.Plain.{plain_of}
 use Rattle.plain_check.specs.Typing.{Assumption, assumptions_of, IsTyped, AreTyped}
-use Rattle.plain_check.specs.Given.{IsPlaced, tokens_at, plain_at, source_read, typed, text_of, texts_of}
+use Rattle.plain_check.specs.Given.{IsPlaced, module_at, plain_at, source_read, typed, text_of}
 use Rattle.plain_check.specs.Asked.{asked, asks_nothing}
-use Rattle.plain_check.proofs.BuildingLemmas.{item_shape, first_item}
-use Rattle.plain_check.proofs.ModuleLemmas.{NoModule}
 use Rattle.plain_check.proofs.OneTextLemmas.{one_flat_text}
 
 -- sources
-
-one_list : (tokens : List Text) (bs cs : List Binding) → AreItems bs tokens → AreItems cs tokens → bs ≡ cs
-one_list tokens [] [] e k = refl
-one_list tokens [] (c ∷ cs) e k =
-    let s = item_shape tokens c k.0 k.1 in
-    let f = first_item tokens c.occ c.arrows c.args s.words k.0 c s.shape s.built [] e in
-    absurd (cc f.1)
-one_list tokens (b ∷ bs) [] k e =
-    let s = item_shape tokens b k.0 k.1 in
-    let f = first_item tokens b.occ b.arrows b.args s.words k.0 b s.shape s.built [] e in
-    absurd (cc f.1)
-one_list tokens (b ∷ bs) (c ∷ cs) k j =
-    let s = item_shape tokens b k.0 k.1 in
-    let f = first_item tokens b.occ b.arrows b.args s.words k.0 b s.shape s.built (c ∷ cs) j in
-    let tail : cs ≡ f.0 = cc f.1 in
-    let rest = one_list k.0 bs cs k.2 (subst (λ (x : List Binding). AreItems x k.0) (sym tail) f.2) in
-    ap (λ (x : List Binding). b ∷ x) (rest ∙ tail) ∙ sym f.1
-
-abbrev made : Text → List Binding → PlainModule
-made name bs = record { name = name; bindings = bs }
-
-one_module : (tokens : List Text) (m k : PlainModule) → m.name ≡ k.name → IsModuleOf m tokens → IsModuleOf k tokens
-    → m ≡ k
-one_module tokens m k name p q =
-    let e = sym p.tokens_are ∙ q.tokens_are in
-    let items : p.items ≡ q.items = cc e in
-    let bs = one_list q.items m.bindings k.bindings
-    (subst (λ (t : List Text). AreItems m.bindings t) items p.listed) q.listed in
-    ap (λ (x : Text). made x m.bindings) name ∙ ap (made k.name) bs
 
 one_place : (component at : Text) (error other : SourceError) (r q : Refused) → error ≡ other
     → IsPlaced component at error r → IsPlaced component at other q → r ≡ q
@@ -64,38 +32,68 @@ one_place component at (e.Lexical n) other r q same p z =
     p ∙ sym (subst (λ (x : SourceError). IsPlaced component at x q) (sym same) z)
 one_place component at (e.Layout n) other r q same p z =
     p ∙ sym (subst (λ (x : SourceError). IsPlaced component at x q) (sym same) z)
+one_place component at (e.Syntax n) other r q same p z =
+    p ∙ sym (subst (λ (x : SourceError). IsPlaced component at x q) (sym same) z)
+one_place component at e.Nesting other r q same p z =
+    p ∙ sym (subst (λ (x : SourceError). IsPlaced component at x q) (sym same) z)
 one_place component at e.NoMemory other r q same p z = absurd p
 
-IsExact-tokens_at : (component at bytes : Text) → IsExact (tokens_at component at bytes)
-unfolding tokens_at
-IsExact-tokens_at component at bytes = record {
-  one_answer = (IsExact-tokens_read bytes).one_answer;
-  one_refusal = λ r q p z. one_place component at p.0 z.0 r q
-      ((IsExact-tokens_read bytes).one_refusal p.0 z.0 p.1 z.1) p.2 z.2;
-  never_both = λ b r p z. (IsExact-tokens_read bytes).never_both b z.0 p z.1;
+IsExact-module_at : (nesting : Option ℕ) (component at bytes : Text) → IsExact (module_at nesting component at bytes)
+unfolding module_at
+IsExact-module_at nesting component at bytes =
+    let exact = IsExact-module_read nesting at bytes in record {
+      one_answer = exact.one_answer;
+      one_refusal = λ r q p z. one_place component at p.0 z.0 r q (exact.one_refusal p.0 z.0 p.1 z.1) p.2 z.2;
+      never_both = λ b r p z. exact.never_both b z.0 p z.1;
+    }
+
+same_plain : (o : Option PlainModule) (a b : PlainModule) → o ≡ Some a → o ≡ Some b → a ≡ b
+same_plain o a b e f = let p : Some a ≡ Some b = sym e ∙ f in cc
+
+not_plain : (o : Option PlainModule) (a : PlainModule) → o ≡ Some a → o ≡ None → ⊥
+not_plain o a e f = cc (e, f)
+
+IsExact-plain_at : (component at : Text) (tree : Module) → IsExact (plain_at component at tree)
+unfolding plain_at
+IsExact-plain_at component at tree = record {
+  one_answer = λ a b p q. same_plain (plain_of tree) a b p q;
+  one_refusal = λ r q p z. p.1 ∙ sym z.1;
+  never_both = λ b r p z. not_plain (plain_of tree) b p z.0;
 }
 
-IsExact-plain_at : (component at : Text) (tokens : List Token) → IsExact (plain_at component at tokens)
-unfolding plain_at
-IsExact-plain_at component at tokens = IsExact-spelled (λ m. (m.name ≡ at) × IsModuleOf m (texts_of tokens))
-    (defect_at Syntax component at (Offset 0))
-    (λ m k p q. one_module (texts_of tokens) m k (p.0 ∙ sym q.0) p.1 q.1)
-
--- where the texts of tokens spell no module, the tokens are refused
-pub not_spelled : (component at : Text) (tokens : List Token) (texts : List Text) (d : Defect)
-    → texts ≡ texts_of tokens → NoModule texts at → d ≡ defect_at Syntax component at (Offset 0)
-    → (plain_at component at tokens).fails (Wrong d)
-unfolding plain_at
-not_spelled component at tokens texts d are none e = (
-  λ m p. none m p.0 (subst (IsModuleOf m) (sym are) p.1),
-  ap Wrong e,
-)
-
--- a source spells one plain module
-pub IsExact-source_read : (component at bytes : Text) → IsExact (source_read component at bytes)
+-- a source is one plain module
+pub IsExact-source_read : (nesting : Option ℕ) (component at bytes : Text)
+    → IsExact (source_read nesting component at bytes)
 unfolding source_read
-IsExact-source_read component at bytes =
-    IsExact-then _ _ (IsExact-tokens_at component at bytes) (IsExact-plain_at component at)
+IsExact-source_read nesting component at bytes =
+    IsExact-then _ _ (IsExact-module_at nesting component at bytes) (IsExact-plain_at component at)
+
+-- what is wrong with a source within a nesting is so without one
+kept_place : (component at : Text) (error : SourceError) (r : Refused) → IsWrong r → IsPlaced component at error r
+    → IsKept error
+kept_place component at (e.LeftOut n) r k p = tt
+kept_place component at (e.Lexical n) r k p = tt
+kept_place component at (e.Layout n) r k p = tt
+kept_place component at (e.Syntax n) r k p = tt
+kept_place component at e.Nesting r k p = subst IsWrong p k
+kept_place component at e.NoMemory r k p = absurd p
+
+IsWithin-module_at : (nesting : Option ℕ) (component at bytes : Text)
+    → IsWithin IsWrong (module_at nesting component at bytes) (module_at None component at bytes)
+unfolding module_at
+IsWithin-module_at nesting component at bytes =
+    let less = IsWithin-module_read nesting at bytes in record {
+      answer = less.answer;
+      refusal = λ r k p. (p.0, less.refusal p.0 (kept_place component at p.0 r k p.2) p.1, p.2);
+    }
+
+-- what a source is within a nesting it is without one
+pub IsWithin-source_read : (nesting : Option ℕ) (component at bytes : Text)
+    → IsWithin IsWrong (source_read nesting component at bytes) (source_read None component at bytes)
+unfolding source_read
+IsWithin-source_read nesting component at bytes =
+    IsWithin-then IsWrong _ _ _ _ (IsWithin-module_at nesting component at bytes)
+    (λ tree. record { answer = λ m p. p; refusal = λ r k p. p })
 
 -- types
 

@@ -1,14 +1,6 @@
 pub mod AskedLemmas
-pub mod BuildingLemmas
 pub mod ExactLemmas
 pub mod IllLemmas
-pub mod ModuleLemmas
-pub mod NumberLemmas
-pub mod OneReadingLemmas
 pub mod OneTextLemmas
-pub mod ReadingBackLemmas
-pub mod RunLemmas
-pub mod SetLemmas
-pub mod ShapingLemmas
 pub mod TableLemmas
 pub mod TypeLemmas

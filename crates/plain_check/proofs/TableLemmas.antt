@@ -7,22 +7,22 @@ use Rattle.std.specs.Cmp.Lexicographic.{slice_cmp}
 use Rattle.std.specs.BTreeMap.{BTreeMap, get}
 use Rattle.std.proofs.lemmas.List.{take_more}
 use Rattle.bp_base.proofs.TextLemmas.{same_texts}
-use Rattle.plain_check.specs.Characters.{is_text}
+use Rattle.std.specs.Str.{bytes_eq}
 use Rattle.plain_check.specs.Arities.{arrows_in, HoldsArrows}
-use Rattle.plain_check.proofs.SetLemmas.{tied_same}
+use Rattle.plain_trees.proofs.SetLemmas.{tied_same}
 use Rattle.hs_plain.specs.declared.plain.Binding.{Binding}
 
 -- one value more
 arrows_in-push : (bs : List Binding) (b : Binding) (name : List ℕ)
-    → arrows_in (bs ++ b ∷ []) name ≡ option_or (arrows_in bs name) (if is_text name b.occ then Some b.arrows else None)
+    → arrows_in (bs ++ b ∷ []) name ≡ option_or (arrows_in bs name) (if bytes_eq name b.occ then Some b.arrows else None)
 arrows_in-push [] b name = refl
-arrows_in-push (c ∷ cs) b name = by_cases (is_text name c.occ) (arrows_in-push cs b name)
+arrows_in-push (c ∷ cs) b name = by_cases (bytes_eq name c.occ) (arrows_in-push cs b name)
   where
     by_cases : (t : Bool) → arrows_in (cs ++ b ∷ []) name ≡ option_or (arrows_in cs name)
-        (if is_text name b.occ then Some b.arrows else None)
+        (if bytes_eq name b.occ then Some b.arrows else None)
         → (if t then Some c.arrows else arrows_in (cs ++ b ∷ []) name)
         ≡ option_or (if t then Some c.arrows else arrows_in cs name)
-        (if is_text name b.occ then Some b.arrows else None)
+        (if bytes_eq name b.occ then Some b.arrows else None)
     by_cases true h = refl
     by_cases false h = h
 
@@ -41,7 +41,7 @@ pub table_kept : (bs : List Binding) (i : ℕ) (item : Binding) (table : BTreeMa
     → HoldsArrows table (take (i + 1) bs)
 table_kept bs i item table h e found holds name =
     holds name
-    ∙ (stays (is_text name item.occ) refl
+    ∙ (stays (bytes_eq name item.occ) refl
     ∙ (sym (arrows_in-push (take i bs) item name) ∙ ap (λ (l : List Binding). arrows_in l name)
     (sym (one_more bs i item h e))))
   where
@@ -49,7 +49,7 @@ table_kept bs i item table h e found holds name =
     some None other g = absurd (cc g)
     some (Some k) other g = refl
 
-    stays : (t : Bool) → is_text name item.occ ≡ t
+    stays : (t : Bool) → bytes_eq name item.occ ≡ t
         → arrows_in (take i bs) name ≡ option_or (arrows_in (take i bs) name) (if t then Some item.arrows else None)
     stays true g =
         some (arrows_in (take i bs) name) (Some item.arrows)
@@ -67,9 +67,9 @@ pub table_more : (bs : List Binding) (i : ℕ) (item : Binding) (occ : List ℕ)
 table_more bs i item occ old new h e same absent up holds name =
     up name
     ∙ (ap (λ (t : Bool). cond t (Some item.arrows) (get (slice_cmp nat_cmp) old name)) (tied_same occ name
-    ∙ ap (λ (o : List ℕ). is_text name o) same)
-    ∙ (ap (λ (o : Option ℕ). cond (is_text name item.occ) (Some item.arrows) o) (holds name)
-    ∙ (joins (is_text name item.occ) refl
+    ∙ ap (λ (o : List ℕ). bytes_eq name o) same)
+    ∙ (ap (λ (o : Option ℕ). cond (bytes_eq name item.occ) (Some item.arrows) o) (holds name)
+    ∙ (joins (bytes_eq name item.occ) refl
     ∙ (sym (arrows_in-push (take i bs) item name) ∙ ap (λ (l : List Binding). arrows_in l name)
     (sym (one_more bs i item h e))))))
   where
@@ -77,7 +77,7 @@ table_more bs i item occ old new h e same absent up holds name =
     none None other g = refl
     none (Some k) other g = absurd (cc g)
 
-    joins : (t : Bool) → is_text name item.occ ≡ t
+    joins : (t : Bool) → bytes_eq name item.occ ≡ t
         → cond t (Some item.arrows) (arrows_in (take i bs) name) ≡ option_or (arrows_in (take i bs) name)
         (if t then Some item.arrows else None)
     joins true g =

@@ -7,7 +7,7 @@ use Rattle.std.specs.Option.{option_map}
 use Rattle.std.proofs.lemmas.Bool.Decides.{nat_tests}
 use Rattle.std.proofs.lemmas.List.{take-append-drop, take_more, drop_more, length-take-le}
 use Rattle.std.proofs.lemmas.Bool.{and_parts, eqb-true, leb-true, le-leb, eq-eqb}
-use Rattle.plain_check.specs.Characters.{is_text}
+use Rattle.std.specs.Str.{bytes_eq}
 use Rattle.bp_base.specs.Lists.{is_among}
 use Rattle.plain_check.specs.Typing.{Plain, integer, function, Assumption, type_in, declared_type, assumptions_of}
 use Rattle.plain_check.specs.Typing.{AtomHas, Applies, AtomsHave, ClauseHas, IsTyped, AreTyped, IsFirstIll}
@@ -40,7 +40,7 @@ declared-more n = ap declared_type (add-one n)
 type_in-entries : (bs : List Binding) (name : List ℕ)
     → type_in (assumptions_of bs) name ≡ option_map declared_type (arrows_in bs name)
 type_in-entries [] name = refl
-type_in-entries (b ∷ bs) name = by_cases (is_text name b.occ) (type_in-entries bs name)
+type_in-entries (b ∷ bs) name = by_cases (bytes_eq name b.occ) (type_in-entries bs name)
   where
     by_cases : (t : Bool) → type_in (assumptions_of bs) name ≡ option_map declared_type (arrows_in bs name)
         → (if t then Some (declared_type b.arrows) else type_in (assumptions_of bs) name) ≡ option_map declared_type
@@ -67,7 +67,7 @@ type_in-pushed : (args : List (List ℕ)) (locals : List Assumption) (name : Lis
 type_in-pushed [] locals name = refl
 type_in-pushed (arg ∷ args) locals name =
     type_in-pushed args (an_int arg ∷ locals) name
-    ∙ either_way (is_text name arg) (is_among name args) (Some integer) (type_in locals name)
+    ∙ either_way (bytes_eq name arg) (is_among name args) (Some integer) (type_in locals name)
 
 args_types : (t : Bool) → option_map declared_type (if t then Some 0 else None) ≡ (if t then Some integer else None)
 args_types true = refl

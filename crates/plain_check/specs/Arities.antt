@@ -5,7 +5,7 @@ use Rattle.std.specs.List.{list_all}
 use Rattle.std.specs.Ordering.{nat_cmp}
 use Rattle.std.specs.Cmp.Lexicographic.{slice_cmp}
 use Rattle.std.specs.BTreeMap.{BTreeMap, get}
-use Rattle.plain_check.specs.Characters.{is_text}
+use Rattle.std.specs.Str.{bytes_eq}
 use Rattle.bp_base.specs.Lists.{is_among}
 use Rattle.hs_plain.specs.declared.plain.Atom.{Atom}
 use Rattle.hs_plain.specs.declared.plain.Atom.TheVariants.{Number, Argument, Declared}
@@ -14,7 +14,7 @@ use Rattle.hs_plain.specs.declared.plain.Binding.{Binding}
 -- the arrows of the first value of this name
 abbrev pub arrows_in : List Binding → List ℕ → Option ℕ
 arrows_in [] name = None
-arrows_in (b ∷ bs) name = if is_text name b.occ then Some b.arrows else arrows_in bs name
+arrows_in (b ∷ bs) name = if bytes_eq name b.occ then Some b.arrows else arrows_in bs name
 
 -- the table holds the arrows of these values
 abbrev pub HoldsArrows : BTreeMap (List ℕ) ℕ → List Binding → Type 0

@@ -1,7 +1,7 @@
 -- Which values of a plain module have their declared types (Haskell 2010 Report, sections 3.2, 3.3 and 4.4.3.1).
 use Rattle.std.specs.Prelude.{◌≡◌, ◌+◌, ℕ, zero, suc, Option, Some, None, List, [], ◌∷◌, ◌++◌, length, map}
 use Rattle.std.specs.Prelude.{if◌then◌else◌}
-use Rattle.plain_check.specs.Characters.{is_text}
+use Rattle.std.specs.Str.{bytes_eq}
 use Rattle.hs_plain.specs.declared.plain.Atom.{Atom}
 use Rattle.hs_plain.specs.declared.plain.Atom.TheVariants.{Number, Argument, Declared}
 use Rattle.hs_plain.specs.declared.plain.Binding.{Binding}
@@ -21,7 +21,7 @@ pub record Assumption : Type 0 where
 -- the type of the name: that of its first entry
 abbrev pub type_in : List Assumption → List ℕ → Option Plain
 type_in [] name = None
-type_in (e ∷ es) name = if is_text name e.name then Some e.type else type_in es name
+type_in (e ∷ es) name = if bytes_eq name e.name then Some e.type else type_in es name
 
 -- a declared type with so many arrows, `Int -> .. -> Int`
 abbrev pub declared_type : ℕ → Plain

@@ -1,4 +1,5 @@
 //! Laws of what the source of a plain module gives.
+ghost use Rattle.std.specs.Prelude.{ℕ, Option};
 ghost use Rattle.bp_base.specs.Texts.{Text};
 ghost use Rattle.bp_checks.specs.Check.{IsExact};
 ghost use Rattle.cabal_component.specs.declared.component.Component.{Component};
@@ -6,10 +7,10 @@ ghost use Rattle.hs_plain.specs.declared.plain.PlainModule.{PlainModule};
 ghost use Rattle.plain_check.specs.Given.{source_read, typed, text_of};
 ghost use Rattle.plain_check.specs.Asked.{asks_nothing};
 
-/// A source spells one module or is refused for one reason; a module is well typed, or one value is the first that is not; and it has one
+/// A source is one module of the plain form or is refused for one reason; a module is well typed, or one value is the first that is not; and it has one
 /// flat text.
 pub fn plain_modules_have_one_outcome()
-    ensures read { (component at bytes : Text) → IsExact (source_read component at bytes) }
+    ensures read { (nesting : Option ℕ) (component at bytes : Text) → IsExact (source_read nesting component at bytes) }
     ensures typed { (component : Text) (m : PlainModule) → IsExact (typed component m) }
     ensures text { (m : PlainModule) → IsExact (text_of m) }
 {}

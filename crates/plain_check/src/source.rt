@@ -1,28 +1,17 @@
 //! From the bytes of a source to its plain module, and to the module's flat text.
-ghost use Rattle.std.specs.Prelude.{◌≡◌, IfOk};
+ghost use Rattle.std.specs.Prelude.{◌≡◌, Some, IfOk};
 ghost use Rattle.bp_base.specs.declared.code.Code.TheVariants as code;
 ghost use Rattle.bp_base.specs.declared.defect.Item.TheVariants.{Offset};
 ghost use Rattle.bp_checks.specs.Refused.{Checks, OnRefusal, defect_at, Wrong};
-ghost use Rattle.plain_check.specs.Given.{texts_of, IsPlaced, tokens_at, plain_at, source_read, text_of};
+ghost use Rattle.plain_check.specs.Given.{IsPlaced, module_at, plain_at, source_read, text_of};
 
-use crate::reader::read_module;
-use bp_base::{Bytes, Code, Defect, Item, Name, Refusal};
+use bp_base::{Bytes, Code, Defect, Item, LimitHit, Name, Refusal, Which};
 use bp_checks::defect_at;
-use haskell_module::{SourceError, read_tokens};
+use haskell_module::{SourceError, read_module};
+use hs_modules::Module;
 use hs_plain::{PlainModule, print_module};
-use hs_tokens::{Token, Tokens};
+use plain_trees::plain_of;
 use std::alloc::{AllocError, Global};
-
-/// The texts of tokens.
-fn texts_of(alloc: Global, tokens: &[Token]) -> Result<Vec<Bytes>, AllocError>
-    ensures { IfOk result (λ texts. texts.items ≡ texts_of tokens.now) }
-{
-    let mut texts = Vec::new(alloc);
-    for token in tokens {
-        texts.push(token.text.copied(alloc)?)?;
-    }
-    Ok(texts)
-}
 
 /// A defect of a source at a place.
 fn refused_at(alloc: Global, code: Code, component: &Name, at: &Name, offset: u64) -> Refusal
@@ -43,22 +32,29 @@ fn source_refused(alloc: Global, component: &Name, at: &Name, error: SourceError
         SourceError::LeftOut { offset } => refused_at(alloc, Code::LeftOut, component, at, offset),
         SourceError::Lexical { offset } => refused_at(alloc, Code::Lexical, component, at, offset),
         SourceError::Layout { offset } => refused_at(alloc, Code::Layout, component, at, offset),
+        SourceError::Syntax { offset } => refused_at(alloc, Code::Syntax, component, at, offset),
+        SourceError::Nesting => Refusal::Limit {
+            hit: LimitHit {
+                which: Which::Nesting,
+                count: 201,
+            },
+        },
         SourceError::NoMemory => Refusal::NoMemory,
     }
 }
 
-/// The tokens of a source by layout.
-#[tactic(auto, unfolding(crate::specs::Given::tokens_at))]
-fn tokens_at(alloc: Global, component: &Name, at: &Name, bytes: &[u8]) -> Result<Tokens, Refusal>
-    ensures { Checks (tokens_at component.now at.now bytes.now) result }
+/// The module that a source is.
+#[tactic(auto, unfolding(crate::specs::Given::module_at))]
+fn module_at(alloc: Global, component: &Name, at: &Name, bytes: &[u8]) -> Result<Module, Refusal>
+    ensures { Checks (module_at (Some 200) component.now at.now bytes.now) result }
 {
-    match read_tokens(alloc, bytes) {
-        Ok(tokens) => Ok(tokens),
+    match read_module(alloc, at.as_bytes(), bytes) {
+        Ok(tree) => Ok(tree),
         Err(error) => Err(source_refused(alloc, component, at, error)),
     }
 }
 
-/// The tokens spell no plain module.
+/// The module is not of the plain form.
 fn no_module(alloc: Global, component: &Name, at: &Name) -> Result<Defect, AllocError>
     ensures { IfOk result (λ defect. defect ≡ defect_at code.Syntax component.now at.now (Offset 0)) }
 {
@@ -72,18 +68,17 @@ fn no_module(alloc: Global, component: &Name, at: &Name) -> Result<Defect, Alloc
     )
 }
 
-/// The plain module of this name that tokens spell.
+/// The plain module that a tree is.
 #[tactic(auto, unfolding(crate::specs::Given::plain_at))]
 fn plain_at(
     alloc: Global,
     component: &Name,
     at: &Name,
-    tokens: &[Token],
+    tree: &Module,
 ) -> Result<PlainModule, Refusal>
-    ensures { Checks (plain_at component.now at.now tokens.now) result }
+    ensures { Checks (plain_at component.now at.now tree.now) result }
 {
-    let texts = texts_of(alloc, tokens)?;
-    let found = read_module(alloc, &texts, at.as_bytes())?;
+    let found = plain_of(alloc, tree)?;
     match found {
         Some(plain) => Ok(plain),
         None => Err(Refusal::Defect {
@@ -92,8 +87,9 @@ fn plain_at(
     }
 }
 
-/// The plain module of this name that a source spells. LeftOut, Lexical and Layout stand at the offset of what is wrong; Syntax stands at
-/// offset 0 for every other source that is not of the plain form.
+/// The plain module of this name that a source is. What the lexer, layout and grammar refuse stands at its offset, and so does the name
+/// of a head that tells another module; a module that nests deeper than 200 is the limit; Syntax stands at offset 0 for every other
+/// module that is not of the plain form.
 #[tactic(auto, unfolding(crate::specs::Given::source_read))]
 pub fn read_source(
     alloc: Global,
@@ -101,10 +97,10 @@ pub fn read_source(
     at: &Name,
     bytes: &[u8],
 ) -> Result<PlainModule, Refusal>
-    ensures { Checks (source_read component.now at.now bytes.now) result }
+    ensures { Checks (source_read (Some 200) component.now at.now bytes.now) result }
 {
-    let tokens = tokens_at(alloc, component, at, bytes)?;
-    let plain = plain_at(alloc, component, at, tokens.as_slice())?;
+    let tree = module_at(alloc, component, at, bytes)?;
+    let plain = plain_at(alloc, component, at, &tree)?;
     Ok(plain)
 }
 
