@@ -18,7 +18,8 @@ use Rattle.name_resolve.specs.Modules.{NameFault, Done, none_found, name_fault, 
 use Rattle.name_resolve.specs.Modules.{tree_or, none_of, Top, declaration_gives, declared_once, decls_give}
 use Rattle.name_resolve.specs.Laws.{NamesAreExact}
 
-exact_refused : {B : Type 0} (r : NameFault) → IsExact {B = B} (record { passes = λ c. ⊥; fails = λ q. q ≡ r })
+-- a check that only refuses, and by one fault
+pub exact_refused : {B : Type 0} (r : NameFault) → IsExact {B = B} (record { passes = λ c. ⊥; fails = λ q. q ≡ r })
 exact_refused r = record {
   one_answer = λ b c p q. absurd p;
   one_refusal = λ a b p q. p ∙ sym q;
@@ -38,7 +39,8 @@ exact_tree : (x : Text) (o : Option (List Decl)) → IsExact (tree_or x o)
 exact_tree x None = exact_refused (NameFault.Fixity x)
 exact_tree x (Some ds) = IsExact-given ds
 
-exact_bound : (t : Bool) (s : Check Done NameFault) → IsExact s → IsExact (bound_or t s)
+-- what is bound around is fine
+pub exact_bound : (t : Bool) (s : Check Done NameFault) → IsExact s → IsExact (bound_or t s)
 exact_bound true s e = IsExact-given tt
 exact_bound false s e = e
 
@@ -47,7 +49,8 @@ exact_global items space x =
     IsExact-then (refusing (name_fault x) (name_meant items space x)) (λ n. given tt)
     (IsExact-refusing (name_fault x) (name_meant items space x) (exact_name items space x)) (λ n. IsExact-given tt)
 
-exact_reference : (items : List ScopeItem) (r : Reference) → IsExact (reference_meant items r)
+-- a reference is fine or has one fault
+pub exact_reference : (items : List ScopeItem) (r : Reference) → IsExact (reference_meant items r)
 exact_reference items (Reference.plain x bound) = exact_bound _ _ (exact_global items Values x)
 exact_reference items (Reference.global space x) = exact_global items space x
 exact_reference items (Reference.variable x head) = exact_bound _ _ (exact_refused (NameFault.NotInScope x))

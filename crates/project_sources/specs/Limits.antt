@@ -12,6 +12,8 @@ pub record Limits : Type 0 where
   pub components : Option ℕ
   -- modules and signatures of a component
   pub own_modules : Option ℕ
+  -- depth of the tree of a source
+  pub nesting : Option ℕ
 
 -- the limits of the program
 abbrev pub limited : Limits
@@ -20,11 +22,12 @@ limited = record {
   source_bytes = Some 33554432;
   components = Some 512;
   own_modules = Some 512;
+  nesting = Some 200;
 }
 
 -- no limits
 abbrev pub unlimited : Limits
-unlimited = record { file_bytes = None; source_bytes = None; components = None; own_modules = None }
+unlimited = record { file_bytes = None; source_bytes = None; components = None; own_modules = None; nesting = None }
 
 -- a number is within a limit, or this is refused
 abbrev pub at_most : Option ℕ → ℕ → Refused → Check (Unit {0}) Refused
